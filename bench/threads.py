@@ -2,14 +2,19 @@
 """Has threads make their rounds over and over, with all that they need and with less.
 
 usage: bench/threads.py [RUNS]
-(`make build` has built the program. RUNS is 200, if nothing else is said.)
+       bench/threads.py processors [RUNS]
+(`make build` has built the program. RUNS is 200, if nothing else is said, and 20 for `processors`.)
 
 Each run of 16 walkers and 16 workers must end in 20 seconds and write its rounds. With little
 memory, or few threads, it must end in 20 seconds too, by its rounds or by `fault: NoMemory`.
+`processors` makes such runs of 50 rounds on 1, 2 and 4 processors, and prints of each number the median of its
+seconds on the clock, of its seconds of processor time, and of how often a thread gave its processor up or lost
+it. Threads that wait sleep, so four processors may take 1.3 times the processor time of one, and no more.
 """
 
 import os
 import resource
+import statistics
 import subprocess
 import sys
 import time
@@ -19,6 +24,10 @@ PROGRAM = os.path.dirname(os.path.abspath(__file__)) + (
 )
 SECONDS = 20
 NOBODY = 65534
+# The status with which the loader ends where it can't load what the program needs.
+NOT_LOADED = 127
+COUNTS = (1, 2, 4)
+MOST = 1.3
 
 
 def run(rounds, before=None):
@@ -60,13 +69,58 @@ def fewer_threads(count):
 
 def ends_anyway(what, number, before):
     found = run(50, before)
+    if found[0] == NOT_LOADED and "loading shared libraries" in found[2]:
+        print(f"{number} {what}: too few for the loader of the C library")
+        return
     must(found in (all_made(50), (1, "", "fault: NoMemory\n")), found)
     print(f"{number} {what}: {(found[1] or found[2]).strip()}")
 
 
+def on(processors):
+    return lambda: os.sched_setaffinity(0, processors)
+
+
+def measured(processors):
+    """The clock, the processor time, and the switches of a run on these processors."""
+    before = resource.getrusage(resource.RUSAGE_CHILDREN)
+    start = time.monotonic()
+    found = run(50, on(processors))
+    clock = time.monotonic() - start
+    must(found == all_made(50), found)
+    after = resource.getrusage(resource.RUSAGE_CHILDREN)
+    return (
+        clock,
+        after.ru_utime + after.ru_stime - before.ru_utime - before.ru_stime,
+        after.ru_nvcsw - before.ru_nvcsw,
+        after.ru_nivcsw - before.ru_nivcsw,
+    )
+
+
+def on_processors(runs):
+    there = sorted(os.sched_getaffinity(0))
+    if len(there) < max(COUNTS):
+        sys.exit(f"threads: expected {max(COUNTS)} processors, and there are {len(there)}")
+    print("| processors | clock s | cpu s | gave up | lost |")
+    print("| ---: | ---: | ---: | ---: | ---: |")
+    taken = {}
+    for count in COUNTS:
+        made = [measured(there[:count]) for _ in range(runs)]
+        clock, cpu, gave_up, lost = (statistics.median(column) for column in zip(*made))
+        taken[count] = cpu
+        print(f"| {count} | {clock:.2f} | {cpu:.2f} | {gave_up:.0f} | {lost:.0f} |", flush=True)
+    ratio = taken[max(COUNTS)] / taken[1]
+    print(f"{ratio:.2f} times the processor time of one on {max(COUNTS)}, of {MOST} at most")
+    return 0 if ratio <= MOST else 1
+
+
 def main(words):
+    if words[1:2] == ["processors"] and len(words) < 4 and all(it.isdecimal() for it in words[2:]):
+        if not os.access(PROGRAM, os.X_OK):
+            print("threads: expected a program that is built: make build", file=sys.stderr)
+            return 2
+        return on_processors(int(words[2]) if words[2:] else 20)
     if len(words) > 2 or not all(it.isdecimal() for it in words[1:]):
-        print("threads: expected at most one word, a number of runs", file=sys.stderr)
+        print("threads: expected a number of runs at most, behind processors or alone", file=sys.stderr)
         return 2
     if not os.access(PROGRAM, os.X_OK):
         print("threads: expected a program that is built: make build", file=sys.stderr)

@@ -109,7 +109,9 @@ class Scripts(unittest.TestCase):
         script = "events\nnscopy 0\nmount 1 /a\n"
         self.assertNotIn("/a", dalvicna.world_text(script, 0))
         self.assertIn("/a", dalvicna.world_text(script, 1))
-        self.assertLess(len(dalvicna.draw(script, 2, 2)), len(dalvicna.draw(script)))
+        self.assertIn("nscopy 0", dalvicna.draw(script))
+        self.assertNotIn("nscopy 0", dalvicna.draw(script, 2, 2))
+        self.assertIn("mount 1 /a", dalvicna.draw(script, 2, 2))
         with self.assertRaises(OverflowError):
             dalvicna.world_text(script, 2**32)
         with self.assertRaises(OverflowError):

@@ -19,6 +19,8 @@ import xml.etree.ElementTree as tree
 
 SVG = "{http://www.w3.org/2000/svg}"
 TOP, ROW, MIDDLE = 118, 26, 13
+# Each so many rows the titles stand once more, and take the height of a row.
+TITLES = 40
 # What is told of a row is probed so far below its middle, where the bar of a walker has begun.
 BELOW = 8
 KINDS = ("waits", "inside", "missing", "expire")
@@ -93,7 +95,7 @@ def faults_of(program, script):
             if one[2] == other[2] and one[3] < other[4] and other[3] < one[4]:
                 yield f"two bars overlap: {one} and {other}"
     for number, part in enumerate(cut_behind_each(script)):
-        probe = TOP + ROW * number + MIDDLE + BELOW
+        probe = TOP + ROW * (number + number // TITLES) + MIDDLE + BELOW
         here = [it for it in bars if it[3] <= probe < it[4]]
         drawn = tuple(sorted(it[1] or 0 for it in here if it[0] in kinds) for kinds in (KINDS[:1], KINDS[1:2], KINDS[2:]))
         there = tuple(sorted(it) for it in busy_in(played(program, "world", part)))

@@ -141,7 +141,7 @@ expect_read_back "hostile names" "$room/hostile.script"
 play draw "$room/hostile.script"
 shown_in "$room/draw" > "$room/shown" 2>> "$room/said"
 cat > "$room/expected" << 'END'
-mount 0 /00000000000000000000000000...
+mount 0 /00000000...00000000000000000
 mount 0 /<&>"'
 mount 0 /\xff\x80\x01
 mount 0 /a\x5c040b

@@ -7,20 +7,20 @@ use Rattle.am_machine.specs.State.{State}
 use Rattle.am_script.specs.{ScriptFault, Output, Summary, is_refused, owed_by, Stands, Settles, Puts, Closes}
 use Rattle.am_state.specs.{Obs}
 use Rattle.am_views.proofs.Shows.{seen_is}
-use Rattle.am_draw.specs.{Lasts, Part, added, head_in, drawn_for, next_lasts, IsCounted, IsDrawn, Finishes, is_drawn, is_out_of_memory, row_text, sides_of, rows_before}
+use Rattle.am_draw.specs.{Lasts, Part, added, head_in, drawn_for, next_lasts, IsCounted, IsDrawn, Finishes, is_drawn, is_out_of_memory, row_text, RowSides, sides_of, rows_before}
 
 -- of an event that isn't drawn the mounts before it don't matter
-row_same : (b : Bool) (rows kept after : List MountRow) (part : Part) (number : ℕ) (lasts : Lasts) (event : Event) (seen : List Obs) (sides : List ℕ) → OnTrue b (rows ≡ kept) → (if b then row_text rows after part number lasts event seen sides else []) ≡ (if b then row_text kept after part number lasts event seen sides else [])
+row_same : (b : Bool) (rows kept after : List MountRow) (part : Part) (number : ℕ) (lasts : Lasts) (event : Event) (seen : List Obs) (sides : RowSides) → OnTrue b (rows ≡ kept) → (if b then row_text rows after part number lasts event seen sides else []) ≡ (if b then row_text kept after part number lasts event seen sides else [])
 row_same true rows kept after part number lasts event seen sides e =
     ap (λ (r : List MountRow). row_text r after part number lasts event seen sides) e
 row_same false rows kept after part number lasts event seen sides e = refl
 
-drawn_same : (part : Part) (number : ℕ) (rows kept after : List MountRow) (lasts : Lasts) (event : Event) (seen : List Obs) (sides : List ℕ) → OnTrue (is_drawn part number) (rows ≡ kept) → drawn_for rows after part number lasts event seen sides ≡ drawn_for kept after part number lasts event seen sides
+drawn_same : (part : Part) (number : ℕ) (rows kept after : List MountRow) (lasts : Lasts) (event : Event) (seen : List Obs) (sides : RowSides) → OnTrue (is_drawn part number) (rows ≡ kept) → drawn_for rows after part number lasts event seen sides ≡ drawn_for kept after part number lasts event seen sides
 drawn_same part number rows kept after lasts event seen sides e =
     ap (λ (t : List ℕ). head_in part number ++ t) (row_same (is_drawn part number) rows kept after part number lasts event seen sides e)
 
 -- a step whose event is drawn so is drawn
-pub draws : (part : Part) (number : ℕ) (s next : State) (event : Event) (answer : Answer) (seen shown : List Obs) (rows behind_rows : List MountRow) (line before : ℕ) (lasts after : Lasts) (sides : List ℕ) (kept mid keeps : Output) (old now new : Option (List ℕ)) (refused : Bool) → Step s event answer seen next → is_out_of_memory answer ≡ false → before ≡ length s.trace → shown ≡ drop before next.trace → OnTrue (is_drawn part number) (rows ≡ rows_before s event) → behind_rows ≡ next.kernel.table.rows → sides ≡ sides_of number event answer → Settles kept mid old now → mid.line ≡ line → Puts mid keeps (drawn_for rows behind_rows part number lasts event shown sides) now new → after ≡ next_lasts part number lasts event shown → refused ≡ is_refused answer → IsDrawn part number s (record { line = line; event = event }) next lasts after kept keeps old new refused
+pub draws : (part : Part) (number : ℕ) (s next : State) (event : Event) (answer : Answer) (seen shown : List Obs) (rows behind_rows : List MountRow) (line before : ℕ) (lasts after : Lasts) (sides : RowSides) (kept mid keeps : Output) (old now new : Option (List ℕ)) (refused : Bool) → Step s event answer seen next → is_out_of_memory answer ≡ false → before ≡ length s.trace → shown ≡ drop before next.trace → OnTrue (is_drawn part number) (rows ≡ rows_before s event) → behind_rows ≡ next.kernel.table.rows → sides ≡ sides_of number event answer → Settles kept mid old now → mid.line ≡ line → Puts mid keeps (drawn_for rows behind_rows part number lasts event shown sides) now new → after ≡ next_lasts part number lasts event shown → refused ≡ is_refused answer → IsDrawn part number s (record { line = line; event = event }) next lasts after kept keeps old new refused
 draws part number s next event answer seen shown rows behind_rows line before lasts after sides kept mid keeps old now new refused step room e f stood stands said begun at put lasting test =
     let is : shown ≡ seen = seen_is s next event answer seen shown before step e f in record {
       row = record {
@@ -35,7 +35,7 @@ draws part number s next event answer seen shown rows behind_rows line before la
       puts = λ all start standing.
           subst (λ (text : List ℕ). Stands keeps (all ++ owed_by line text) start new) (drawn_same part number rows (rows_before s event) behind_rows lasts event seen (sides_of number event answer) stood)
           (subst (λ (seen : List Obs). Stands keeps (all ++ owed_by line (drawn_for rows behind_rows part number lasts event seen (sides_of number event answer))) start new) is
-          (subst (λ (sides : List ℕ). Stands keeps (all ++ owed_by line (drawn_for rows behind_rows part number lasts event shown sides)) start new) said
+          (subst (λ (sides : RowSides). Stands keeps (all ++ owed_by line (drawn_for rows behind_rows part number lasts event shown sides)) start new) said
           (subst (λ (n : ℕ). Stands keeps (all ++ owed_by n (drawn_for rows behind_rows part number lasts event shown sides)) start new) at (put.puts all start (begun all start standing)))));
       line = put.same ∙ at;
       lasts = lasting ∙ ap (next_lasts part number lasts event) is;

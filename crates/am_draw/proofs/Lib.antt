@@ -8,4 +8,5 @@ pub mod LostPieces
 pub mod PieceLemmas
 pub mod RowLemmas
 pub mod RunLemmas
+pub mod TitleLemmas
 pub mod TreeLemmas

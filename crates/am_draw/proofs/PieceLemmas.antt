@@ -7,7 +7,9 @@ use Rattle.am_draw.specs.{Lasts, Part, Viewed, Piece, event_piece, event_pieces,
 use Rattle.am_draw.proofs.LostPieces.{owed_for, owed_one}
 
 pub pieces_push : (part : Part) (number : ℕ) (lasts : Lasts) (rows : List Viewed) (row : Viewed) → event_pieces part number lasts (rows ++ row ∷ []) ≡ event_pieces part number lasts rows ++ event_piece part (number + length rows) (lasts_behind part number lasts rows) row ∷ []
-pieces_push part number lasts [] row = rw add-zero refl
+pieces_push part number lasts [] row =
+    let is : number ≡ number + 0 = omega arith in
+    ap (λ (n : ℕ). event_piece part n lasts row ∷ []) is
 pieces_push part number lasts (first ∷ rows) row =
     ap (λ (t : List Piece). event_piece part number lasts first ∷ t)
     (pieces_push part (number + 1) (next_lasts part number lasts first.asked.event first.seen) rows row

@@ -18,7 +18,7 @@ use Rattle.am_draw.specs.declared.part.Size.{Size}
 use Rattle.am_draw.specs.Lasting.{Lasts, behind, added, nothing_lasts}
 use Rattle.am_draw.specs.Head.{head_text, tail_text}
 use Rattle.am_draw.specs.Parts.{part_of, is_drawn, is_past}
-use Rattle.am_draw.specs.Rows.{row_text, sides_of}
+use Rattle.am_draw.specs.Rows.{RowSides, row_text, sides_of}
 use Rattle.am_draw.specs.Trees.{rows_before}
 
 -- ---- a run with its mounts
@@ -90,7 +90,7 @@ pub record IsSizeOf (start : State) (told : Told) (size : Size) : Type 0 where
 -- ---- what is drawn
 
 -- the row of the event with this number, if it is drawn
-abbrev pub row_in : List MountRow → List MountRow → Part → ℕ → Lasts → Event → List Obs → List ℕ → List ℕ
+abbrev pub row_in : List MountRow → List MountRow → Part → ℕ → Lasts → Event → List Obs → RowSides → List ℕ
 row_in before after part number lasts event seen sides =
     if is_drawn part number then row_text before after part number lasts event seen sides else []
 
@@ -99,7 +99,7 @@ abbrev pub head_in : Part → ℕ → List ℕ
 head_in part number = if number == 1 then head_text part else []
 
 -- what is drawn for the event with this number: the head before the first, and its row
-abbrev pub drawn_for : List MountRow → List MountRow → Part → ℕ → Lasts → Event → List Obs → List ℕ → List ℕ
+abbrev pub drawn_for : List MountRow → List MountRow → Part → ℕ → Lasts → Event → List Obs → RowSides → List ℕ
 drawn_for before after part number lasts event seen sides =
     head_in part number ++ row_in before after part number lasts event seen sides
 

@@ -5,12 +5,12 @@ use Rattle.am_draw.specs.declared.part.Part.{Part}
 use Rattle.am_draw.specs.Lasting.{Lasts}
 use Rattle.am_draw.specs.Look.{look_text, right_text}
 use Rattle.am_draw.specs.Marks.{label, shift}
-use Rattle.am_draw.specs.Parts.{wide, rows_shown}
+use Rattle.am_draw.specs.Parts.{wide, rows_shown, tall}
 use Rattle.am_draw.specs.Stretches.{all_bars}
 
--- how high a picture of so many rows is, in pixels
+-- how high a picture is of rows that take so many heights of one, in pixels
 abbrev pub height : ℕ → ℕ
-height rows = 140 + 26 * rows
+height tall = 140 + 26 * tall
 
 -- how wide one is with room for so many lanes of walkers and of tokens, in pixels
 abbrev pub width : ℕ → ℕ → ℕ
@@ -37,11 +37,11 @@ abbrev pub title_text : ℕ → ℕ → List ℕ
 title_text rows events =
     codes "' class='am' role='img'>\n<title>" ++ (count_words rows events ++ codes "</title>\n")
 
--- the tag, with its title, of a picture of so many rows of so many events
-abbrev pub tag_text : ℕ → ℕ → ℕ → ℕ → List ℕ
-tag_text walkers tokens rows events =
-    size_text (width walkers tokens) (height rows)
-    ++ (box_text (width walkers tokens) (height rows) ++ title_text rows events)
+-- the tag, with its title, of a picture of so many rows of so many events, which are so tall
+abbrev pub tag_text : ℕ → ℕ → ℕ → ℕ → ℕ → List ℕ
+tag_text walkers tokens tall rows events =
+    size_text (width walkers tokens) (height tall)
+    ++ (box_text (width walkers tokens) (height tall) ++ title_text rows events)
 
 -- ---- what all rows stand on
 
@@ -83,22 +83,23 @@ ground walkers tokens down =
 
 -- ---- head and tail
 
--- so many rows of so many events, with room for so many lanes
-abbrev pub head_for : ℕ → ℕ → ℕ → ℕ → List ℕ
-head_for walkers tokens rows events =
-    tag_text walkers tokens rows events
+-- so many rows of so many events, which are so tall, with room for so many lanes
+abbrev pub head_for : ℕ → ℕ → ℕ → ℕ → ℕ → List ℕ
+head_for walkers tokens tall rows events =
+    tag_text walkers tokens tall rows events
     ++ (look_text
-    ++ (ground walkers tokens (26 * rows) ++ label (codes "h") 46 84 (count_words rows events)))
+    ++ (ground walkers tokens (26 * tall) ++ label (codes "h") 46 84 (count_words rows events)))
 
 -- the head of the picture of this part
 abbrev pub head_text : Part → List ℕ
 head_text part =
-    head_for (wide 7 part.size.walkers) (wide 8 part.size.tokens) part.rows part.size.events
+    head_for (wide 7 part.size.walkers) (wide 8 part.size.tokens) (tall part.skipped part.rows) part.rows
+    part.size.events
 
 -- the bars that reach to the bottom of the last of so many rows
 abbrev pub last_bars : ℕ → ℕ → Lasts → List ℕ
 last_bars skipped rows lasts =
-    codes "<g transform='translate(0," ++ decimal (105 + 26 * rows)
+    codes "<g transform='translate(0," ++ decimal (105 + 26 * tall skipped rows)
     ++ (codes ")'>\n"
     ++ (all_bars (record { skipped = skipped; number = skipped + rows; more = 13 }) lasts
     ++ codes "</g>\n"))

@@ -1,5 +1,6 @@
 pub mod Changes
 pub mod Drawn
+pub mod Errors
 pub mod Head
 pub mod Lasting
 pub mod Look
@@ -8,21 +9,25 @@ pub mod Parts
 pub mod Rows
 pub mod Sides
 pub mod Stretches
+pub mod Titles
 pub mod Trees
 pub mod Words
 -- what contracts cite, passed on from one place
 pub use Rattle.am_lanes.specs.{Ending, Holder, IsNextEnding, ended_lane, ends_lane, is_free, is_of, lane_for, may_take, placed, sighted, with_lane}
 pub use Drawn.{AllDrawn, DrawEnds, DrawStops, DrawnFrom, DrawnToLoss, DrawsAgain, DrawsFrom, DrawsInput, Finishes, IsAtEvent, IsCounted, IsDrawn, IsSizeOf, IsSizeOfScript, NotCounted, Piece, StopsDrawing, Viewed, ViewedRun, Views, added_behind, answers_in, asked_in, bytes_in, counted_to, drawn_for, event_piece, event_pieces, first_lasts, head_in, is_out_of_memory, lanes_for, lasts_behind, next_lasts, picture, pieces_of, size_of, tail_behind, tail_for, tail_pieces}
+pub use Errors.{answer_words, error_word, went_of}
 pub use Head.{tail_text}
 pub use Lasting.{Lasts, acted, added, behind, changed, lasts_of, nothing_lasts, roomed, roomed_for, seen_added, seen_behind}
 pub use Marks.{lane_x}
 pub use Parts.{is_drawn, is_past, part_of, row_y, rows_shown}
-pub use Rows.{obs_drawn, row_text, seen_drawn, sides_of}
+pub use Rows.{RowSides, obs_drawn, row_text, seen_drawn, sides_of}
 pub use Sides.{sides_said}
 pub use Stretches.{bar, lane_bar, lane_bars}
+pub use Titles.{first_names, lane_name, lane_names, titles_in}
 pub use Trees.{is_umount, rows_before, takes_mounts, tree_marks}
 pub use Words.{xml}
 pub use declared.marks.LaneKind.{LaneKind}
 pub use declared.part.Part.{Part}
 pub use declared.part.Size.{Size}
 pub use declared.stretch.Until.{Until}
+pub use declared.went.Went.{Went}

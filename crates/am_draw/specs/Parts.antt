@@ -1,6 +1,6 @@
 -- Which events of a script are drawn, and how wide the picture is: own choice (docs/FORMATS.md,
 -- "Pictures").
-use Rattle.std.specs.Prelude.{ℕ, ◌+◌, ◌-◌, ◌*◌, Bool, ◌&&◌, not, min, nat_lt, if◌then◌else◌}
+use Rattle.std.specs.Prelude.{ℕ, ◌+◌, ◌-◌, ◌*◌, ◌/◌, ◌%◌, Bool, ◌&&◌, ◌==◌, not, min, nat_lt, if◌then◌else◌}
 use Rattle.am_draw.specs.declared.part.Size.{Size}
 use Rattle.am_draw.specs.declared.part.Part.{Part}
 
@@ -34,9 +34,30 @@ abbrev pub rows_shown : Part → ℕ → ℕ
 rows_shown part events =
     if is_past part events then part.rows else events - part.skipped
 
--- the top of the event's row
+-- Each so many rows the titles of the columns stand once more, and at the first row where events are
+-- skipped before it. They take the height of a row.
+abbrev pub rows_a_title : ℕ
+rows_a_title = 40
+
+-- how often they stand among so many rows, before which so many events are skipped
+abbrev pub titles_among : ℕ → ℕ → ℕ
+titles_among skipped rows = min skipped 1 + (rows - 1) / rows_a_title
+
+-- how often they stand above the row of the event with this number
+abbrev pub titles_before : ℕ → ℕ → ℕ
+titles_before skipped number = titles_among skipped (number - skipped)
+
+-- they stand at the top of this event's row
+abbrev pub has_titles : ℕ → ℕ → Bool
+has_titles skipped number = nat_lt 1 number && (number - skipped - 1) % rows_a_title == 0
+
+-- how many rows' heights so many rows take
+abbrev pub tall : ℕ → ℕ → ℕ
+tall skipped rows = rows + titles_among skipped rows
+
+-- the top of the event's row, in pixels
 abbrev pub row_y : Part → ℕ → ℕ
-row_y part number = 118 + 26 * (number - part.skipped - 1)
+row_y part number = 118 + 26 * (number - part.skipped - 1 + titles_before part.skipped number)
 
 -- room for so many lanes, but for no less than this, and at most for so many
 abbrev pub wide : ℕ → ℕ → ℕ

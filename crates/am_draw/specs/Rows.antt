@@ -1,26 +1,30 @@
 -- The row of an event: own choice (docs/FORMATS.md, "Pictures").
-use Rattle.std.specs.Prelude.{ℕ, ◌+◌, ◌-◌, ◌*◌, Bool, List, [], ◌∷◌, ◌++◌, codes, decimal, if◌then◌else◌}
-use Rattle.am_names.specs.{MountRow, Status}
+use Rattle.std.specs.Prelude.{ℕ, ◌+◌, ◌-◌, ◌*◌, List, [], ◌∷◌, ◌++◌, codes, decimal, Option, None, Some}
+use Rattle.am_names.specs.{MountRow, Status, fail_number}
+use Rattle.am_names.specs.declared.trigger.Trigger.{Trigger}
 use Rattle.am_names.specs.declared.trigger.Status.TheVariants.{Ready, Fail}
 use Rattle.am_wire.specs.declared.packet_type.PacketType.{PacketType}
 use Rattle.am_wire.specs.declared.packet_type.PacketType.TheVariants.{MissingIndirect, ExpireIndirect, MissingDirect, ExpireDirect}
 use Rattle.am_wire.specs.{Packet}
-use Rattle.am_state.specs.{Obs}
+use Rattle.am_state.specs.{Obs, Record}
 use Rattle.am_state.specs.declared.obs.Obs.TheVariants as seen
 use Rattle.am_machine.specs.{Answer, Event}
 use Rattle.am_machine.specs.declared.event.Event.TheVariants as events
-use Rattle.am_script.specs.{answer_text, entry_text, is_refused}
+use Rattle.am_script.specs.{entry_text}
 use Rattle.am_views.specs.{event_text}
 use Rattle.am_draw.specs.declared.marks.LaneKind.TheVariants.{OfTokens, OfWalkers}
 use Rattle.am_draw.specs.declared.stretch.Until.{Until}
 use Rattle.am_draw.specs.declared.part.Part.{Part}
+use Rattle.am_draw.specs.declared.went.Went.{Went}
 use Rattle.am_lanes.specs.{lane_of}
+use Rattle.am_draw.specs.Errors.{answer_class, answer_words, mark_of, went_of}
 use Rattle.am_draw.specs.Lasting.{Lasts, changed, acted, behind}
 use Rattle.am_draw.specs.Marks.{stamp, stroke, label, lane_x, shift}
 use Rattle.am_draw.specs.Parts.{row_y}
+use Rattle.am_draw.specs.Titles.{titles_in}
 use Rattle.am_draw.specs.Stretches.{walker_columns, token_columns, ended_bars}
 use Rattle.am_draw.specs.Trees.{mounts_marks}
-use Rattle.am_draw.specs.Words.{words}
+use Rattle.am_draw.specs.Words.{words, xml}
 
 -- ---- where things stand
 
@@ -42,22 +46,32 @@ moved lasts = shift (walker_columns lasts) (token_columns lasts)
 
 -- ---- what stands at the sides
 
--- an answer that refuses looks otherwise
-abbrev pub answer_class : Bool → List ℕ
-answer_class refused = if refused then codes "m refused" else codes "m"
+-- the whole line, which is shown where one points at the row
+abbrev pub line_title : List ℕ → List ℕ
+line_title line = codes "<title>" ++ (xml line ++ codes "</title>\n")
 
 -- the number of the event, its line, and below that its answer
-abbrev pub labels : ℕ → List ℕ → List ℕ → Bool → List ℕ
-labels number event answer refused =
-    label (codes "m n") 36 17 (decimal number)
-    ++ (label (codes "m") 46 11 (words 35 event)
-    ++ label (answer_class refused) 58 22 (words 34 answer))
+abbrev pub labels : ℕ → List ℕ → List ℕ → Went → List ℕ
+labels number event answer went =
+    line_title event
+    ++ (label (codes "m n") 36 17 (decimal number)
+    ++ (label (codes "m") 46 11 (words 17 event)
+    ++ label (answer_class went) 58 22 (words 17 answer)))
+
+-- what is said at the sides of a row, and how its event went
+pub record RowSides : Type 0 where
+  pub words : List ℕ
+  pub went : Went
 
 -- ---- who acts
 
--- the mark of a walker, with its number
-abbrev pub walker_mark : List ℕ → ℕ → ℕ → List ℕ
-walker_mark symbol x walker = stamp symbol x 13 ++ label (codes "s n") (x - 8) 17 (decimal walker)
+-- a mark, with a number at its left
+abbrev pub numbered_mark : List ℕ → ℕ → ℕ → List ℕ
+numbered_mark symbol x number = stamp symbol x 13 ++ label (codes "s n") (x - 8) 17 (decimal number)
+
+-- the mark of a walker whose event went so, with its number
+abbrev pub walker_mark : List ℕ → Went → ℕ → ℕ → List ℕ
+walker_mark symbol went x walker = numbered_mark (mark_of symbol went) x walker
 
 -- the mark of the administrator
 abbrev pub administrator_mark : Lasts → List ℕ
@@ -67,27 +81,31 @@ administrator_mark lasts = stamp (codes "administrator") (1010 + moved lasts) 13
 abbrev pub daemon_mark : Lasts → List ℕ
 daemon_mark lasts = stamp (codes "daemon") (884 + moved lasts) 13
 
--- the mark of whoever makes the event; one that only reads has none
-abbrev pub actor_marks : Lasts → Event → List ℕ
-actor_marks lasts (events.Walk walker ns path now pipe) =
-    walker_mark (codes "walks") (walker_x lasts walker) walker
-actor_marks lasts (events.Resume walker now pipe) =
-    walker_mark (codes "walks") (walker_x lasts walker) walker
-actor_marks lasts (events.Leave walker) =
-    walker_mark (codes "walks") (walker_x lasts walker) walker
-actor_marks lasts (events.Expire walker fs now immediate pipe) =
-    walker_mark (codes "expires") (walker_x lasts walker) walker
-actor_marks lasts (events.Attach path) = daemon_mark lasts
-actor_marks lasts (events.Deliver token bytes) = daemon_mark lasts
-actor_marks lasts (events.Act job failure) = daemon_mark lasts
-actor_marks lasts (events.Repeat attach token status) = daemon_mark lasts
-actor_marks lasts (events.Catatonic attach fs) = daemon_mark lasts
-actor_marks lasts (events.Timeout attach fs timeout) = daemon_mark lasts
-actor_marks lasts (events.Reattach fs) = daemon_mark lasts
-actor_marks lasts events.Die = stamp (codes "cross") (884 + moved lasts) 13
-actor_marks lasts (events.Kind ns path) = []
-actor_marks lasts (events.Record trigger) = []
-actor_marks lasts event = administrator_mark lasts
+-- the mark of the daemon at an act of a job, with the job's number
+abbrev pub act_mark : Lasts → ℕ → List ℕ
+act_mark lasts job = numbered_mark (codes "daemon") (884 + moved lasts) job
+
+-- the mark of whoever makes an event that went so; one that only reads has none
+abbrev pub actor_marks : Lasts → Event → Went → List ℕ
+actor_marks lasts (events.Walk walker ns path now pipe) went =
+    walker_mark (codes "walks") went (walker_x lasts walker) walker
+actor_marks lasts (events.Resume walker now pipe) went =
+    walker_mark (codes "walks") went (walker_x lasts walker) walker
+actor_marks lasts (events.Leave walker) went =
+    walker_mark (codes "leaves") went (walker_x lasts walker) walker
+actor_marks lasts (events.Expire walker fs now immediate pipe) went =
+    walker_mark (codes "expires") went (walker_x lasts walker) walker
+actor_marks lasts (events.Attach path) went = daemon_mark lasts
+actor_marks lasts (events.Deliver token bytes) went = daemon_mark lasts
+actor_marks lasts (events.Act job failure) went = act_mark lasts job
+actor_marks lasts (events.Repeat attach token status) went = daemon_mark lasts
+actor_marks lasts (events.Catatonic attach fs) went = daemon_mark lasts
+actor_marks lasts (events.Timeout attach fs timeout) went = daemon_mark lasts
+actor_marks lasts (events.Reattach fs) went = daemon_mark lasts
+actor_marks lasts events.Die went = stamp (codes "cross") (884 + moved lasts) 13
+actor_marks lasts (events.Kind ns path) went = []
+actor_marks lasts (events.Record trigger) went = []
+actor_marks lasts event went = administrator_mark lasts
 
 -- ---- what is seen
 
@@ -100,7 +118,7 @@ kind_words ExpireDirect = codes "expire "
 
 -- what a packet asks for, and its name
 abbrev pub packet_words : Packet → List ℕ
-packet_words packet = kind_words packet.kind ++ words 16 packet.name
+packet_words packet = kind_words packet.kind ++ words 8 packet.name
 
 -- a token whose packet is queued: its bar begins, with its number and the name
 abbrev pub queued_marks : ℕ → ℕ → Packet → List ℕ
@@ -118,6 +136,32 @@ answered_symbol (Fail error) = codes "failed"
 abbrev pub released_class : Status → List ℕ
 released_class Ready = codes "ready"
 released_class (Fail error) = codes "fail"
+
+-- how the words at the arrow look
+abbrev pub status_class : Status → List ℕ
+status_class Ready = codes "ok"
+status_class (Fail error) = codes "no"
+
+-- the words at the arrow; of a failure the number of its error too
+abbrev pub status_words : Status → List ℕ
+status_words Ready = codes "READY"
+status_words (Fail error) = codes "FAIL " ++ decimal (fail_number error)
+
+-- a walker is released from a token with this status
+abbrev pub released_marks : ℕ → ℕ → Status → List ℕ
+released_marks from to status =
+    stroke (released_class status) from to ++ label (status_class status) (to + 9) 9 (status_words status)
+
+-- whose record it is in the daemon's book: that of a name, or of a direct trigger
+abbrev pub named_words : ℕ → Option (List ℕ) → List ℕ
+named_words fs None = codes "file system " ++ decimal fs
+named_words fs (Some name) = words 6 name
+
+-- what the book says of a trigger from here on
+abbrev pub book_marks : ℕ → Trigger → Option Record → List ℕ
+book_marks x trigger entry =
+    label (codes "s") x 11 (codes "book: " ++ named_words trigger.fs trigger.name)
+    ++ label (codes "s") x 22 (entry_text entry)
 
 -- what is said where a file system becomes catatonic
 abbrev pub catatonic_words : ℕ → List ℕ
@@ -140,7 +184,7 @@ obs_marks before after lasts (seen.Catatonic fs) =
     stamp (codes "catatonic") (inset lasts) 0
     ++ label (codes "h c") (820 + inset lasts) 17 (catatonic_words fs)
 obs_marks before after lasts (seen.Released walker token status) =
-    stroke (released_class status) (token_x lasts token - 7) (walker_x lasts walker + 6)
+    released_marks (token_x lasts token - 7) (walker_x lasts walker + 6) status
 obs_marks before after lasts (seen.Passed walker trigger) =
     stamp (codes "passes") (walker_x lasts walker) 13
 obs_marks before after lasts (seen.Entered walker mount) =
@@ -153,7 +197,7 @@ obs_marks before after lasts (seen.Unmounted mounts) =
 obs_marks before after lasts (seen.Delivered token attach packet) =
     stroke (codes "packet") (token_x lasts token + 7) (878 + moved lasts)
 obs_marks before after lasts (seen.Recorded trigger entry) =
-    label (codes "s") (895 + moved lasts) 17 (codes "book: " ++ entry_text entry)
+    book_marks (895 + moved lasts) trigger entry
 obs_marks before after lasts (seen.Reattached fs attach) =
     label (codes "s") (895 + moved lasts) 17 (codes "attached again, by " ++ decimal attach)
 obs_marks before after lasts seen.Died = label (codes "h") (897 + moved lasts) 17 (codes "the daemon dies")
@@ -181,22 +225,25 @@ abbrev pub scene : ℕ → List ℕ → List ℕ
 scene y sides = row_opening y ++ sides
 
 -- what is seen, and who acts, which stands above the bars
-abbrev pub marks : List MountRow → List MountRow → Until → Lasts → Event → List Obs → List ℕ
-marks before after until lasts event seen =
+abbrev pub marks : List MountRow → List MountRow → Until → Lasts → Event → Went → List Obs → List ℕ
+marks before after until lasts event went seen =
     seen_drawn before after until (acted until.number lasts event) seen
-    ++ (actor_marks (behind until.number lasts event seen) event ++ codes "</g>\n")
+    ++ (actor_marks (behind until.number lasts event seen) event went ++ codes "</g>\n")
 
 -- where the bars of the event with this number end
 abbrev pub until_row : Part → ℕ → Until
 until_row part number = record { skipped = part.skipped; number = number; more = 0 }
 
 -- the row of an event before which this lasts
-abbrev pub row_text : List MountRow → List MountRow → Part → ℕ → Lasts → Event → List Obs → List ℕ → List ℕ
+abbrev pub row_text : List MountRow → List MountRow → Part → ℕ → Lasts → Event → List Obs → RowSides → List ℕ
 row_text before after part number lasts event seen sides =
-    scene (row_y part number) sides
-    ++ marks before after (until_row part number) lasts event seen
+    scene (row_y part number) sides.words
+    ++ (titles_in part number lasts
+    ++ marks before after (until_row part number) lasts event sides.went seen)
 
--- what stands at the sides of the row of this event
-abbrev pub sides_of : ℕ → Event → Answer → List ℕ
-sides_of number event answer =
-    labels number (event_text event) (answer_text answer) (is_refused answer)
+-- what is said at the sides of the row of this event
+abbrev pub sides_of : ℕ → Event → Answer → RowSides
+sides_of number event answer = record {
+  words = labels number (event_text event) (answer_words answer) (went_of answer);
+  went = went_of answer;
+}

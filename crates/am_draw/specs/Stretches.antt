@@ -11,7 +11,7 @@ use Rattle.am_draw.specs.declared.marks.LaneKind.TheVariants.{OfTokens, OfWalker
 use Rattle.am_draw.specs.declared.stretch.Until.{Until}
 use Rattle.am_draw.specs.Lasting.{Lasts}
 use Rattle.am_draw.specs.Marks.{stretch, lane_x}
-use Rattle.am_draw.specs.Parts.{wide}
+use Rattle.am_draw.specs.Parts.{titles_before, wide}
 
 -- how many lanes of walkers have room
 abbrev pub walker_columns : Lasts → ℕ
@@ -25,8 +25,11 @@ token_columns lasts = wide 8 (length lasts.tokens)
 -- that is above the first row, to its top.
 abbrev pub reach : Until → ℕ → ℕ → ℕ
 reach until mark since =
-    if nat_le since until.skipped then 13 + 26 * (until.number - until.skipped - 1) + until.more
-    else 26 * (until.number - since) + until.more - mark
+    if nat_le since until.skipped
+    then 13 + 26 * (until.number - until.skipped - 1 + titles_before until.skipped until.number) + until.more
+    else
+    26 * (until.number - since + (titles_before until.skipped until.number - titles_before until.skipped since))
+    + until.more - mark
 
 -- the bar of one who looks so since then; one without a bar has none
 abbrev pub bar : Look → Until → ℕ → ℕ → List ℕ

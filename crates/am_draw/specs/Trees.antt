@@ -54,7 +54,7 @@ tree_marks symbol rows mounts = flat_map (λ mount. tree_mark symbol (mount_row 
 abbrev pub point_words : List ℕ → Option Position → List ℕ
 point_words joint None = codes ", a root"
 point_words joint (Some position) =
-    (joint ++ decimal position.mount) ++ words 14 (place_text position.place)
+    (joint ++ decimal position.mount) ++ words 7 (place_text position.place)
 
 -- where the mount stands, if it is among the rows
 abbrev pub row_words : List ℕ → Option MountRow → List ℕ

@@ -1,5 +1,5 @@
 -- Bytes as text in a picture (XML 1.0, "Character Data and Markup").
-use Rattle.std.specs.Prelude.{ℕ, Bool, ◌==◌, nat_lt, nat_le, not, ◌&&◌, List, [], ◌∷◌, ◌++◌, length, take, codes, if◌then◌else◌}
+use Rattle.std.specs.Prelude.{ℕ, ◌-◌, Bool, ◌==◌, nat_lt, nat_le, not, ◌&&◌, List, [], ◌∷◌, ◌++◌, length, take, drop, codes, if◌then◌else◌}
 use Rattle.std.specs.List.{flat_map}
 use Rattle.hex.specs.Hex.{encode_lower}
 
@@ -24,7 +24,9 @@ xml_byte byte =
 abbrev pub xml : List ℕ → List ℕ
 xml bytes = flat_map xml_byte bytes
 
--- bytes, cut behind so many, which three dots tell
+-- Bytes, cut in their middle, which three dots tell: so many of the first and of the last stay.
 abbrev pub words : ℕ → List ℕ → List ℕ
-words most bytes =
-    if nat_lt most (length bytes) then xml (take most bytes) ++ codes "..." else xml bytes
+words half bytes =
+    if nat_lt half (length bytes - half)
+    then xml (take half bytes) ++ (codes "..." ++ xml (drop (length bytes - half) bytes))
+    else xml bytes

@@ -14,9 +14,10 @@ ghost use Rattle.am_draw.specs.Rows.{row_text};
 use crate::head::{put_head, put_tail};
 use crate::lasting::Lasting;
 use crate::part::{Part, Size, part_of};
-use crate::row::put_marks;
+use crate::row::{Asked, put_marks};
 use crate::scene::{Said, put_scene, say};
 use crate::stretch::Until;
+use crate::titles::put_titles_in;
 use crate::trees::{Trees, rows_before};
 use am_names::Errno;
 use am_script::answer_line::put_word;
@@ -602,7 +603,7 @@ fn put_row_in<W: Write>(
 }
 
 /// Puts out the row of an event.
-#[tactic(auto, using(am_script::proofs::Pieces::puts_two))]
+#[tactic(auto, using(am_script::proofs::Pieces::puts_three))]
 fn put_row<W: Write>(
     output: &mut Output,
     part: &Part,
@@ -625,6 +626,11 @@ fn put_row<W: Write>(
         number: said.number,
         more: 0,
     };
+    let asked = Asked {
+        event,
+        went: said.went,
+    };
     put_scene(output, part.row_y(said.number), said, writer);
-    put_marks(output, &until, lasting, event, seen, trees, writer);
+    put_titles_in(output, part, said.number, lasting, writer);
+    put_marks(output, &until, lasting, &asked, seen, trees, writer);
 }

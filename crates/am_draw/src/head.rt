@@ -6,12 +6,12 @@ ghost use Rattle.am_draw.specs.Head.{size_text, box_text, count_words, title_tex
 ghost use Rattle.am_draw.specs.Lasting.{lasts_of};
 ghost use Rattle.am_draw.specs.Look.{look_text, right_text};
 ghost use Rattle.am_draw.specs.Marks.{label, shift};
-ghost use Rattle.am_draw.specs.Parts.{most_rows};
+ghost use Rattle.am_draw.specs.Parts.{most_rows, tall};
 
 use crate::lasting::Lasting;
 use crate::look::{look, right};
 use crate::marks::{put_closing, put_opening, shift};
-use crate::part::{Part, wide};
+use crate::part::{Part, tall, wide};
 use crate::stretch::{Until, put_all_bars};
 use am_script::answer_line::{put_number, put_word};
 use am_script::output::Output;
@@ -25,7 +25,16 @@ pub(crate) fn put_head<W: Write>(output: &mut Output, part: &Part, writer: &mut 
 {
     let walkers = wide(7, part.size.walkers);
     let tokens = wide(8, part.size.tokens);
-    put_head_for(output, walkers, tokens, part.rows, part.size.events, writer);
+    let height = tall(part.skipped, part.rows);
+    put_head_for(
+        output,
+        walkers,
+        tokens,
+        height,
+        part.rows,
+        part.size.events,
+        writer,
+    );
 }
 
 #[tactic(auto, using(am_views::proofs::FourPieces::puts_four))]
@@ -33,19 +42,20 @@ fn put_head_for<W: Write>(
     output: &mut Output,
     walkers: u64,
     tokens: u64,
+    tall: u64,
     rows: u64,
     events: u64,
     writer: &mut W,
 )
     requires walkers { walkers ≤ 1000000 }
     requires tokens { tokens ≤ 1000000 }
-    requires rows { rows ≤ most_rows }
-    ensures { Puts output.old output.new (head_for walkers tokens rows events)
+    requires tall { tall ≤ 2000001 }
+    ensures { Puts output.old output.new (head_for walkers tokens tall rows events)
         (W.contents writer.old) (W.contents writer.new) }
 {
-    put_tag(output, walkers, tokens, rows, events, writer);
+    put_tag(output, walkers, tokens, tall, rows, events, writer);
     put_look(output, writer);
-    put_ground(output, walkers, tokens, 26 * rows, writer);
+    put_ground(output, walkers, tokens, 26 * tall, writer);
     put_count(output, rows, events, writer);
 }
 
@@ -60,18 +70,19 @@ fn put_tag<W: Write>(
     output: &mut Output,
     walkers: u64,
     tokens: u64,
+    tall: u64,
     rows: u64,
     events: u64,
     writer: &mut W,
 )
     requires walkers { walkers ≤ 1000000 }
     requires tokens { tokens ≤ 1000000 }
-    requires rows { rows ≤ most_rows }
-    ensures { Puts output.old output.new (tag_text walkers tokens rows events)
+    requires tall { tall ≤ 2000001 }
+    ensures { Puts output.old output.new (tag_text walkers tokens tall rows events)
         (W.contents writer.old) (W.contents writer.new) }
 {
     let across = 844 + 44 * walkers + 20 * tokens;
-    let down = 140 + 26 * rows;
+    let down = 140 + 26 * tall;
     put_size(output, across, down, writer);
     put_box(output, across, down, writer);
     put_title(output, rows, events, writer);
@@ -260,7 +271,7 @@ fn put_last_bars<W: Write>(
     put_number(
         output,
         b"<g transform='translate(0,",
-        105 + 26 * rows,
+        105 + 26 * tall(skipped, rows),
         writer,
     );
     put_word(output, b")'>\n", writer);

@@ -11,7 +11,9 @@ pub mod part;
 mod row;
 mod scene;
 mod stretch;
+mod titles;
 mod trees;
+mod went;
 mod words;
 
 pub use draw::draw_script;

@@ -168,21 +168,21 @@ pub(crate) fn put_number_label<W: Write>(
     put_closing(output, writer);
 }
 
-/// Puts out a text of this class, cut behind so many bytes.
+/// Puts out a text of this class, cut in its middle: so many of its first and last bytes stay.
 #[tactic(auto, using(am_script::proofs::Pieces::puts_three))]
 pub(crate) fn put_words_label<W: Write>(
     output: &mut Output,
     class: &[u8],
     x: u64,
     y: u64,
-    most: usize,
+    half: usize,
     bytes: &[u8],
     writer: &mut W,
 )
-    ensures { Puts output.old output.new (label class.now x y (words most bytes.now))
+    ensures { Puts output.old output.new (label class.now x y (words half bytes.now))
         (W.contents writer.old) (W.contents writer.new) }
 {
     put_opening(output, class, x, y, writer);
-    put_words(output, most, bytes, writer);
+    put_words(output, half, bytes, writer);
     put_closing(output, writer);
 }

@@ -1,13 +1,16 @@
 //! Which events of a script are drawn, and how wide the picture is.
 
 ghost use Rattle.std.specs.Prelude.{◌≡◌, ◌+◌, ◌-◌, ◌<◌, ◌≤◌, ◌^◌};
-ghost use Rattle.am_draw.specs.Parts.{most_rows, most_lanes, part_of, is_drawn, is_past, rows_shown, row_y, wide};
+ghost use Rattle.am_draw.specs.Parts.{most_rows, most_lanes, part_of, is_drawn, is_past, rows_shown, rows_a_title, titles_among, titles_before, has_titles, tall, row_y, wide};
 
 /// The most rows of a picture.
 pub const MOST_ROWS: u64 = 1_000_000;
 
 /// The most lanes of walkers, and of tokens.
 pub const MOST_LANES: u64 = 1_000_000;
+
+/// Each so many rows the titles of the columns stand once more.
+const ROWS_A_TITLE: u64 = 40;
 
 /// How large the picture of a whole script is.
 #[derive(Clone, Copy)]
@@ -61,7 +64,39 @@ pub(crate) fn wide(least: u64, lanes: u64) -> u64
     lanes
 }
 
+/// How often the titles stand among so many rows, before which so many events are skipped.
+fn titles_among(skipped: u64, rows: u64) -> u64
+    ensures titles { result ≡ titles_among skipped rows }
+    ensures few { result ≤ 1 + rows }
+{
+    skipped.min(1) + rows.saturating_sub(1) / ROWS_A_TITLE
+}
+
+/// How often they stand above the row of the event with this number.
+pub(crate) fn titles_before(skipped: u64, number: u64) -> u64
+    ensures titles { result ≡ titles_before skipped number }
+    ensures few { result ≤ 1 + (number - skipped) }
+{
+    titles_among(skipped, number.saturating_sub(skipped))
+}
+
+/// How many rows' heights so many rows take.
+pub(crate) fn tall(skipped: u64, rows: u64) -> u64
+    requires { rows ≤ most_rows }
+    ensures tall { result ≡ tall skipped rows }
+    ensures most { result ≤ 2000001 }
+{
+    rows + titles_among(skipped, rows)
+}
+
 impl Part {
+    /// Whether the titles stand at the top of this event's row.
+    pub fn has_titles(&self, number: u64) -> bool
+        ensures { result ≡ has_titles self.now.skipped number }
+    {
+        1 < number && number.saturating_sub(self.skipped).saturating_sub(1) % ROWS_A_TITLE == 0
+    }
+
     /// Whether the event with this number is drawn.
     pub fn is_drawn(&self, number: u64) -> bool
         ensures { result ≡ is_drawn self.now number }
@@ -94,6 +129,7 @@ impl Part {
         requires { number - self.now.skipped ≤ most_rows }
         ensures { result ≡ row_y self.now number }
     {
-        118 + 26 * number.saturating_sub(self.skipped).saturating_sub(1)
+        let before = number.saturating_sub(self.skipped).saturating_sub(1);
+        118 + 26 * (before + titles_before(self.skipped, number))
     }
 }

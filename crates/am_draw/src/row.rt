@@ -1,11 +1,12 @@
 //! The marks in the row of an event.
 
-ghost use Rattle.std.specs.Prelude.{◌≡◌, ◌≤◌, ◌+◌, ◌-◌, ◌++◌, codes};
+ghost use Rattle.std.specs.Prelude.{◌≡◌, ◌≤◌, ◌+◌, ◌-◌, ◌++◌, codes, decimal};
+ghost use Rattle.am_names.specs.{fail_number};
 ghost use Rattle.am_script.specs.{entry_text, Puts};
 ghost use Rattle.am_draw.specs.Lasting.{lasts_of, changed, seen_behind, behind};
 ghost use Rattle.am_draw.specs.Marks.{stamp, label};
 ghost use Rattle.am_draw.specs.Parts.{most_rows};
-ghost use Rattle.am_draw.specs.Rows.{token_x, walker_x, inset, moved, walker_mark, administrator_mark, daemon_mark, actor_marks, kind_words, packet_words, queued_marks, answered_symbol, released_class, catatonic_words, shifted, obs_marks, obs_drawn, seen_drawn, marks};
+ghost use Rattle.am_draw.specs.Rows.{token_x, walker_x, inset, moved, numbered_mark, walker_mark, administrator_mark, daemon_mark, act_mark, actor_marks, kind_words, packet_words, queued_marks, answered_symbol, released_class, status_class, status_words, released_marks, named_words, book_marks, catatonic_words, shifted, obs_marks, obs_drawn, seen_drawn, marks};
 ghost use Rattle.am_draw.specs.Trees.{mounts_marks};
 ghost use Rattle.am_draw.specs.Words.{words};
 
@@ -15,10 +16,12 @@ use crate::marks::{
 };
 use crate::stretch::{Until, put_ended_bars, token_columns, walker_columns};
 use crate::trees::{Trees, put_mounts};
+use crate::went::{Went, mark_of};
 use crate::words::put_words;
-use am_names::{FsId, MountIds, MountRow, Status, Token, WalkerId};
+use am_names::{FsId, JobId, MountIds, MountRow, Name, Status, Token, Trigger, WalkerId};
 use am_script::answer_line::{put_entry, put_number, put_word};
 use am_script::output::Output;
+use am_state::KeptTrigger;
 use am_wire::{Packet, PacketType};
 use am_world::{Event, Obs, Record};
 use std::io::Write;
@@ -57,6 +60,13 @@ fn moved(lasting: &Lasting) -> u64
     shift(walker_columns(lasting), token_columns(lasting))
 }
 
+/// An event, and how it went for whoever made it.
+#[derive(Clone, Copy)]
+pub struct Asked<'a> {
+    pub event: &'a Event,
+    pub went: Went,
+}
+
 /// Puts out all marks of the row of an event of which this is seen, and the bars that end in it. It
 /// takes in what is seen.
 #[tactic(auto, using(am_script::proofs::Pieces::puts_three))]
@@ -64,7 +74,7 @@ pub(crate) fn put_marks<W: Write>(
     output: &mut Output,
     until: &Until,
     lasting: &mut Lasting,
-    event: &Event,
+    asked: &Asked<'_>,
     seen: &[Obs],
     trees: &Trees<'_>,
     writer: &mut W,
@@ -72,31 +82,40 @@ pub(crate) fn put_marks<W: Write>(
     requires rows { until.now.number - until.now.skipped ≤ most_rows }
     requires more { until.now.more ≤ 13 }
     ensures marks { Puts output.old output.new (marks trees.now.before.now trees.now.behind.now
-        until.now (lasts_of lasting.old) event.now seen.now) (W.contents writer.old)
-        (W.contents writer.new) }
+        until.now (lasts_of lasting.old) asked.now.event.now asked.now.went seen.now)
+        (W.contents writer.old) (W.contents writer.new) }
     ensures lasts { lasts_of lasting.new
-        ≡ behind until.now.number (lasts_of lasting.old) event.now seen.now }
+        ≡ behind until.now.number (lasts_of lasting.old) asked.now.event.now seen.now }
 {
-    lasting.act(until.number, event);
+    lasting.act(until.number, asked.event);
     put_seen(output, until, lasting, seen, trees, writer);
-    put_actor(output, lasting, event, writer);
+    put_actor(output, lasting, asked, writer);
     put_word(output, b"</g>\n", writer);
 }
 
 #[tactic(auto, using(am_script::proofs::Pieces::puts_two))]
+fn put_numbered<W: Write>(output: &mut Output, symbol: &[u8], x: u64, number: u32, writer: &mut W)
+    requires { 8 ≤ x }
+    ensures { Puts output.old output.new (numbered_mark symbol.now x number) (W.contents writer.old)
+        (W.contents writer.new) }
+{
+    put_stamp(output, symbol, x, 13, writer);
+    put_number_label(output, b"s n", x - 8, 17, b"", u64::from(number), writer);
+}
+
 fn put_walker<W: Write>(
     output: &mut Output,
     symbol: &[u8],
+    went: Went,
     x: u64,
     walker: WalkerId,
     writer: &mut W,
 )
     requires { 8 ≤ x }
-    ensures { Puts output.old output.new (walker_mark symbol.now x walker) (W.contents writer.old)
-        (W.contents writer.new) }
+    ensures { Puts output.old output.new (walker_mark symbol.now went x walker)
+        (W.contents writer.old) (W.contents writer.new) }
 {
-    put_stamp(output, symbol, x, 13, writer);
-    put_number_label(output, b"s n", x - 8, 17, b"", u64::from(walker.0), writer);
+    put_numbered(output, mark_of(symbol, went), x, walker.0, writer);
 }
 
 fn put_administrator<W: Write>(output: &mut Output, lasting: &Lasting, writer: &mut W)
@@ -115,51 +134,41 @@ fn put_daemon<W: Write>(output: &mut Output, lasting: &Lasting, writer: &mut W)
     put_stamp(output, b"daemon", x, 13, writer);
 }
 
-#[tactic(auto, using(am_script::proofs::Pieces::puts_none))]
-fn put_actor<W: Write>(output: &mut Output, lasting: &Lasting, event: &Event, writer: &mut W)
-    ensures { Puts output.old output.new (actor_marks (lasts_of lasting.now) event.now) (W.contents writer.old)
-        (W.contents writer.new) }
+fn put_act<W: Write>(output: &mut Output, lasting: &Lasting, job: JobId, writer: &mut W)
+    ensures { Puts output.old output.new (act_mark (lasts_of lasting.now) job)
+        (W.contents writer.old) (W.contents writer.new) }
 {
-    match event {
+    let x = 884 + moved(lasting);
+    put_numbered(output, b"daemon", x, job.0, writer);
+}
+
+#[tactic(auto, using(am_script::proofs::Pieces::puts_none))]
+fn put_actor<W: Write>(output: &mut Output, lasting: &Lasting, asked: &Asked<'_>, writer: &mut W)
+    ensures { Puts output.old output.new
+        (actor_marks (lasts_of lasting.now) asked.now.event.now asked.now.went)
+        (W.contents writer.old) (W.contents writer.new) }
+{
+    let went = asked.went;
+    match asked.event {
         Event::Walk { walker, .. } => {
-            put_walker(
-                output,
-                b"walks",
-                walker_x(lasting, *walker),
-                *walker,
-                writer,
-            )
+            let x = walker_x(lasting, *walker);
+            put_walker(output, b"walks", went, x, *walker, writer)
         }
         Event::Resume { walker, .. } => {
-            put_walker(
-                output,
-                b"walks",
-                walker_x(lasting, *walker),
-                *walker,
-                writer,
-            )
+            let x = walker_x(lasting, *walker);
+            put_walker(output, b"walks", went, x, *walker, writer)
         }
         Event::Leave { walker } => {
-            put_walker(
-                output,
-                b"walks",
-                walker_x(lasting, *walker),
-                *walker,
-                writer,
-            )
+            let x = walker_x(lasting, *walker);
+            put_walker(output, b"leaves", went, x, *walker, writer)
         }
         Event::Expire { walker, .. } => {
-            put_walker(
-                output,
-                b"expires",
-                walker_x(lasting, *walker),
-                *walker,
-                writer,
-            )
+            let x = walker_x(lasting, *walker);
+            put_walker(output, b"expires", went, x, *walker, writer)
         }
         Event::Attach { .. } => put_daemon(output, lasting, writer),
         Event::Deliver { .. } => put_daemon(output, lasting, writer),
-        Event::Act { .. } => put_daemon(output, lasting, writer),
+        Event::Act { job, .. } => put_act(output, lasting, *job, writer),
         Event::Repeat { .. } => put_daemon(output, lasting, writer),
         Event::Catatonic { .. } => put_daemon(output, lasting, writer),
         Event::Timeout { .. } => put_daemon(output, lasting, writer),
@@ -277,7 +286,7 @@ fn put_obs<W: Write>(
         } => {
             let from = token_x(lasting, *token) - 7;
             let to = walker_x(lasting, *walker) + 6;
-            put_stroke(output, released_class(*status), from, to, writer)
+            put_released(output, from, to, *status, writer)
         }
         Obs::Passed { walker, .. } => {
             put_stamp(output, b"passes", walker_x(lasting, *walker), 13, writer)
@@ -313,10 +322,8 @@ fn put_obs<W: Write>(
             let from = token_x(lasting, *token) + 7;
             put_stroke(output, b"packet", from, 878 + moved(lasting), writer)
         }
-        Obs::Recorded { entry, .. } => {
-            put_opening(output, b"s", 895 + moved(lasting), 17, writer);
-            put_book(output, entry, writer);
-            put_closing(output, writer)
+        Obs::Recorded { trigger, entry } => {
+            put_recorded(output, lasting, trigger, entry, writer)
         }
         Obs::Reattached { attach, .. } => put_number_label(
             output,
@@ -354,7 +361,7 @@ fn put_packet_words<W: Write>(output: &mut Output, packet: &Packet, writer: &mut
         (W.contents writer.new) }
 {
     put_kind(output, packet.kind, writer);
-    put_words(output, 16, packet.name.as_bytes(), writer);
+    put_words(output, 8, packet.name.as_bytes(), writer);
 }
 
 #[tactic(auto, using(am_script::proofs::Pieces::puts_three))]
@@ -397,6 +404,46 @@ fn released_class(status: Status) -> &'static [u8]
     }
 }
 
+fn status_class(status: Status) -> &'static [u8]
+    ensures { result.now ≡ status_class status }
+{
+    match status {
+        Status::Ready => b"ok",
+        Status::Fail(_) => b"no",
+    }
+}
+
+fn put_status_words<W: Write>(output: &mut Output, status: Status, writer: &mut W)
+    ensures { Puts output.old output.new (status_words status) (W.contents writer.old)
+        (W.contents writer.new) }
+{
+    match status {
+        Status::Ready => put_word(output, b"READY", writer),
+        Status::Fail(error) => put_number(output, b"FAIL ", u64::from(error.number()), writer),
+    }
+}
+
+#[tactic(auto, using(am_script::proofs::Pieces::puts_three))]
+fn put_status_label<W: Write>(output: &mut Output, x: u64, status: Status, writer: &mut W)
+    ensures { Puts output.old output.new (label (status_class status) x 9 (status_words status))
+        (W.contents writer.old) (W.contents writer.new) }
+{
+    put_opening(output, status_class(status), x, 9, writer);
+    put_status_words(output, status, writer);
+    put_closing(output, writer);
+}
+
+/// Puts out the arrow to a walker that is released.
+#[tactic(auto, using(am_script::proofs::Pieces::puts_two))]
+fn put_released<W: Write>(output: &mut Output, from: u64, to: u64, status: Status, writer: &mut W)
+    requires { to ≤ 64000344 }
+    ensures { Puts output.old output.new (released_marks from to status) (W.contents writer.old)
+        (W.contents writer.new) }
+{
+    put_stroke(output, released_class(status), from, to, writer);
+    put_status_label(output, to + 9, status, writer);
+}
+
 #[tactic(auto, using(am_script::proofs::Pieces::puts_two))]
 fn put_catatonic_words<W: Write>(output: &mut Output, fs: FsId, writer: &mut W)
     ensures { Puts output.old output.new (catatonic_words fs) (W.contents writer.old)
@@ -427,11 +474,83 @@ fn put_catatonic<W: Write>(output: &mut Output, lasting: &Lasting, fs: FsId, wri
     put_catatonic_label(output, 820 + x, fs, writer);
 }
 
-#[tactic(auto, using(am_script::proofs::Pieces::puts_two))]
-fn put_book<W: Write>(output: &mut Output, entry: &Option<Record>, writer: &mut W)
-    ensures { Puts output.old output.new (codes "book: " ++ entry_text entry.now)
+fn put_fs<W: Write>(output: &mut Output, fs: FsId, writer: &mut W)
+    ensures { Puts output.old output.new (codes "file system " ++ decimal fs)
         (W.contents writer.old) (W.contents writer.new) }
 {
+    put_number(output, b"file system ", u64::from(fs.0), writer);
+}
+
+fn put_named<W: Write>(output: &mut Output, fs: FsId, name: &Option<Name>, writer: &mut W)
+    ensures { Puts output.old output.new (named_words fs name.now) (W.contents writer.old)
+        (W.contents writer.new) }
+{
+    match name {
+        None => put_fs(output, fs, writer),
+        Some(name) => put_words(output, 6, name.as_bytes(), writer),
+    }
+}
+
+#[tactic(auto, using(am_script::proofs::Pieces::puts_two))]
+fn put_book_name<W: Write>(output: &mut Output, trigger: &Trigger, writer: &mut W)
+    ensures { Puts output.old output.new
+        (codes "book: " ++ named_words trigger.now.fs trigger.now.name) (W.contents writer.old)
+        (W.contents writer.new) }
+{
     put_word(output, b"book: ", writer);
+    put_named(output, trigger.fs, &trigger.name, writer);
+}
+
+#[tactic(auto, using(am_script::proofs::Pieces::puts_three))]
+fn put_book_title<W: Write>(output: &mut Output, x: u64, trigger: &Trigger, writer: &mut W)
+    ensures { Puts output.old output.new (label (codes "s") x 11
+        (codes "book: " ++ named_words trigger.now.fs trigger.now.name)) (W.contents writer.old)
+        (W.contents writer.new) }
+{
+    put_opening(output, b"s", x, 11, writer);
+    put_book_name(output, trigger, writer);
+    put_closing(output, writer);
+}
+
+#[tactic(auto, using(am_script::proofs::Pieces::puts_three))]
+fn put_book_entry<W: Write>(output: &mut Output, x: u64, entry: &Option<Record>, writer: &mut W)
+    ensures { Puts output.old output.new (label (codes "s") x 22 (entry_text entry.now))
+        (W.contents writer.old) (W.contents writer.new) }
+{
+    put_opening(output, b"s", x, 22, writer);
     put_entry(output, entry, writer);
+    put_closing(output, writer);
+}
+
+/// Puts out what the book says of a trigger from here on.
+#[tactic(auto, using(am_script::proofs::Pieces::puts_two))]
+fn put_book<W: Write>(
+    output: &mut Output,
+    x: u64,
+    trigger: &Trigger,
+    entry: &Option<Record>,
+    writer: &mut W,
+)
+    ensures { Puts output.old output.new (book_marks x trigger.now entry.now)
+        (W.contents writer.old) (W.contents writer.new) }
+{
+    put_book_title(output, x, trigger, writer);
+    put_book_entry(output, x, entry, writer);
+}
+
+/// The same, where the columns at the right are moved.
+fn put_recorded<W: Write>(
+    output: &mut Output,
+    lasting: &Lasting,
+    trigger: &KeptTrigger,
+    entry: &Option<Record>,
+    writer: &mut W,
+)
+    ensures { Puts output.old output.new
+        (book_marks (895 + moved (lasts_of lasting.now)) trigger.now entry.now)
+        (W.contents writer.old) (W.contents writer.new) }
+{
+    let x = 895 + moved(lasting);
+    let kept = trigger.to_trigger();
+    put_book(output, x, &kept, entry, writer);
 }

@@ -8,7 +8,7 @@ ghost use Rattle.am_draw.specs.Stretches.{walker_columns, token_columns, reach, 
 
 use crate::lasting::Lasting;
 use crate::marks::{LaneKind, lane_x, put_stretch};
-use crate::part::wide;
+use crate::part::{titles_before, wide};
 use am_lanes::{Ending, Holder, Lanes, Look, ends};
 use am_script::output::Output;
 use am_world::Obs;
@@ -49,12 +49,14 @@ fn reach(until: &Until, mark: u64, since: u64) -> u64
     requires more { until.now.more ≤ 13 }
     ensures { result ≡ reach until.now mark since }
 {
+    let titles = titles_before(until.skipped, until.number);
     if since <= until.skipped {
-        let rows = until.number.saturating_sub(until.skipped);
-        return 13 + 26 * rows.saturating_sub(1) + until.more;
+        let rows = until.number.saturating_sub(until.skipped).saturating_sub(1);
+        return 13 + 26 * (rows + titles) + until.more;
     }
     let rows = until.number.saturating_sub(since);
-    (26 * rows + until.more).saturating_sub(mark)
+    let between = titles.saturating_sub(titles_before(until.skipped, since));
+    (26 * (rows + between) + until.more).saturating_sub(mark)
 }
 
 /// Puts out the bar of one who looks so since then.

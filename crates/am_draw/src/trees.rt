@@ -153,7 +153,7 @@ fn put_position<W: Write>(output: &mut Output, joint: &[u8], position: &Position
         (W.contents writer.old) (W.contents writer.new) }
 {
     put_number(output, joint, position.mount.0, writer);
-    put_words(output, 14, place_text(&position.place), writer);
+    put_words(output, 7, place_text(&position.place), writer);
 }
 
 fn put_point<W: Write>(

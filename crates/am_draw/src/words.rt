@@ -10,22 +10,25 @@ use am_script::output::Output;
 use hex::encode_to_slice;
 use std::io::Write;
 
-/// Puts bytes out as text, cut behind so many, which three dots tell.
-#[tactic(auto, using(am_script::proofs::Pieces::puts_two))]
-pub(crate) fn put_words<W: Write>(output: &mut Output, most: usize, bytes: &[u8], writer: &mut W)
-    ensures { Puts output.old output.new (words most bytes.now) (W.contents writer.old)
+/// Puts bytes out as text, cut in their middle: so many of the first and of the last stay.
+#[tactic(auto, using(am_script::proofs::Pieces::puts_three))]
+pub(crate) fn put_words<W: Write>(output: &mut Output, half: usize, bytes: &[u8], writer: &mut W)
+    ensures { Puts output.old output.new (words half bytes.now) (W.contents writer.old)
         (W.contents writer.new) }
 {
-    if most < bytes.len() {
-        put_xml(output, &bytes[..most], writer);
+    let last = bytes.len().saturating_sub(half);
+    if half < last {
+        put_xml(output, &bytes[..half], writer);
         put_word(output, b"...", writer);
+        put_xml(output, &bytes[last..], writer);
         return;
     }
     put_xml(output, bytes, writer);
 }
 
+/// Puts bytes out as text.
 #[tactic(auto, using(am_script::proofs::Pieces::puts_none))]
-fn put_xml<W: Write>(output: &mut Output, bytes: &[u8], writer: &mut W)
+pub(crate) fn put_xml<W: Write>(output: &mut Output, bytes: &[u8], writer: &mut W)
     ensures { Puts output.old output.new (xml bytes.now) (W.contents writer.old)
         (W.contents writer.new) }
 {

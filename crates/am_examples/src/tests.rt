@@ -3,4 +3,5 @@
 mod daemon;
 mod mounts;
 mod shared;
+mod threads;
 mod worlds;

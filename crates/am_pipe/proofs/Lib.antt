@@ -1,3 +1,4 @@
 pub mod CountLemmas
 pub mod MoveLemmas
 pub mod RestLemmas
+pub mod MeterLemmas

@@ -1,22 +1,35 @@
 -- What contracts see of the ends of a pipe
 -- (autofs.rst, "Communicating with autofs: the event pipe").
 use Rattle.std.specs.Prelude.{◌≡◌, ℕ, ◌+◌, ◌-◌, ◌<◌, ◌==◌, List, [], ◌∷◌, ◌++◌, Some, slice_get}
-use Rattle.std.specs.Prelude.{All, if◌then◌else◌, nat_le, nat_lt, ◌&&◌}
+use Rattle.std.specs.Prelude.{All, if◌then◌else◌, nat_le, nat_lt, ◌&&◌, ◌||◌, ◌^◌, Bool, false, length}
 use Rattle.atomic_table.specs.Seated.{TableId}
 use Rattle.am_pipe.specs.declared.note.Note.{Note}
 
--- the put end: its pipe, how many notes the pipe has room for, how many take ends it has, and the
--- notes that were put, in order
+-- the put end: its pipe, how many notes the pipe has room for, how many take ends it has, the
+-- notes that were put, in order, how often it read the number of takes that are over, and the
+-- number that it read last
 pub record Putter : Type 0 where
   pub pipe : TableId
   pub room : ℕ
   pub takers : ℕ
   pub sent : List Note
+  pub looks : ℕ
+  pub freed : ℕ
 
--- a take end: its pipe, and the notes that it took, in order, each with its position
+-- a take end: its pipe, the notes that it took, in order, each with its position, and whether it
+-- found the pipe closed
 pub record Taker : Type 0 where
   pub pipe : TableId
   pub got : List (ℕ × Note)
+  pub over : Bool
+
+-- a pipe has room for one note more behind so many, of which so many were taken, and a position
+abbrev pub has_room : ℕ → ℕ → ℕ → Bool
+has_room put taken room = nat_lt put (2 ^ 64 - 1) && (nat_lt put room || nat_lt (put - room) taken)
+
+-- there is none, by the number of takes that the put end read last
+abbrev pub IsFull : Putter → Type 0
+IsFull put = has_room (length put.sent) put.freed put.room ≡ false
 
 -- what these take ends took, one end after another
 abbrev pub taken_by : List Taker → List (ℕ × Note)

@@ -4,8 +4,10 @@
 #![tactic(auto)]
 
 mod ends;
+mod line;
+mod meter;
 mod note;
 mod rule;
 
-pub use ends::{PutEnd, TakeEnd, gather, pipe};
+pub use ends::{Closer, PutEnd, TakeEnd, gather, pipe};
 pub use note::Note;

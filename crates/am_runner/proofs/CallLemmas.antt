@@ -1,10 +1,13 @@
 -- What a call adds, and what it adds to that.
-use Rattle.std.proofs.Common.{◌≡◌, ℕ, zero, suc, ◌+◌, List, [], ◌∷◌, ◌++◌, Option, Some, None, Result, Ok, Err, OnOk, OnErr, Bool, true, false, MatchBool, refl, sym, ap, ◌∙◌, subst, append_assoc, arith, All}
+use Rattle.std.proofs.Common.{◌≡◌, ℕ, zero, suc, ◌+◌, List, [], ◌∷◌, ◌++◌, Option, Some, None, Result, Ok, Err, IfOk, OnOk, OnErr, Bool, true, false, MatchBool, refl, sym, ap, ◌∙◌, subst, append_assoc, length-append, arith, All}
 use Rattle.std.proofs.lemmas.Bool.{false≢true}
 use Rattle.std.proofs.lemmas.List.{append-nil}
 use Rattle.std.proofs.lemmas.List.Elements.{All-nil, All-cons, All-append, All-same, All-weaker}
-use Rattle.am_machine.specs.{Event}
-use Rattle.am_shared.specs.{Receipt}
+use Rattle.std.specs.Prelude.{◌-◌, length, slice_get}
+use Rattle.std.specs.Option.{ok_or}
+use Rattle.std.specs.Result.{is_err}
+use Rattle.am_machine.specs.{Answer, Event, Setup}
+use Rattle.am_shared.specs.{Receipt, Receives}
 use Rattle.am_runner.specs.{Reply, Adds, Makes, IsOf, RanOut, IsCall, AreMany, reply_of}
 
 pub match_true : (b : Bool) (P Q : Type 0) → b ≡ true → MatchBool b P Q → P
@@ -83,6 +86,21 @@ adds_makes P Q R f a b c first last = record {
   are = f first.made last.made first.each last.are;
 }
 
+get_last : (rs : List Receipt) (r : Receipt) → slice_get (rs ++ r ∷ []) (length rs) ≡ Some r
+get_last [] r = refl
+get_last (x ∷ rs) r = get_last rs r
+
+some_same : (x y : Receipt) → Some x ≡ Some y → x ≡ y
+some_same x y e = cc
+
+-- the last receipt is that of the last call
+pub last_made : (old new : List Receipt) (made last : Receipt) → new ≡ old ++ made ∷ []
+    → Some last ≡ slice_get new (length new - 1) → last ≡ made
+last_made old new made last behind at =
+    let long : length new - 1 ≡ length old =
+    omega (arith, ap length behind, length-append old (made ∷ [])) in
+    some_same last made (at ∙ (λ i. slice_get (behind i) (long i)) ∙ get_last old made)
+
 pub call_once : (event : Event) (reply : Reply) (r : Receipt) (a b : List Receipt) → b ≡ a ++ r ∷ []
     → r.event ≡ event → reply_of r.answer ≡ Some reply → Makes (IsCall event reply) a b
 call_once event reply r a b behind is_of replies = record {
@@ -98,6 +116,17 @@ call_once event reply r a b behind is_of replies = record {
   };
 }
 
+-- the same of a call, whose receipt is asked for behind it
+pub call_made : (event : Event) (reply : Reply) (position : ℕ) (answer : Answer) (last : Receipt)
+    (a b : List Receipt)
+    → b ≡ a ++ record { position = position; event = event; answer = answer } ∷ []
+    → Some last ≡ slice_get b (length b - 1) → reply_of last.answer ≡ Some reply
+    → Makes (IsCall event reply) a b
+call_made event reply position answer last a b behind at replies =
+    let r : Receipt = record { position = position; event = event; answer = answer } in
+    call_once event reply r a b behind refl
+    (ap (λ (x : Receipt). reply_of x.answer) (sym (last_made a b r last behind at)) ∙ replies)
+
 pub ran_once : (event : Event) (r : Receipt) (a b : List Receipt) → b ≡ a ++ r ∷ []
     → r.event ≡ event → reply_of r.answer ≡ None → Adds (RanOut event) a b
 ran_once event r a b behind is_of none = record {
@@ -105,6 +134,62 @@ ran_once event r a b behind is_of none = record {
   behind = behind;
   each = All-cons (RanOut event) r [] (is_of, none) (All-nil (RanOut event));
 }
+
+pub ran_made : (event : Event) (position : ℕ) (answer : Answer) (last : Receipt) (a b : List Receipt)
+    → b ≡ a ++ record { position = position; event = event; answer = answer } ∷ []
+    → Some last ≡ slice_get b (length b - 1) → reply_of last.answer ≡ None → Adds (RanOut event) a b
+ran_made event position answer last a b behind at none =
+    let r : Receipt = record { position = position; event = event; answer = answer } in
+    ran_once event r a b behind refl
+    (ap (λ (x : Receipt). reply_of x.answer) (sym (last_made a b r last behind at)) ∙ none)
+
+-- a call, by what is made of its answer
+replies_ok : {E : Type 0} (e : E) (event : Event) (o : Option Reply) (position : ℕ)
+    (answer : Answer) (last : Receipt) (a b : List Receipt)
+    → b ≡ a ++ record { position = position; event = event; answer = answer } ∷ []
+    → Some last ≡ slice_get b (length b - 1) → o ≡ reply_of last.answer
+    → IfOk (ok_or o e) (λ reply. Makes (IsCall event reply) a b)
+replies_ok e event (Some reply) position answer last a b behind at is =
+    call_made event reply position answer last a b behind at (sym is)
+replies_ok e event None position answer last a b behind at is = tt
+
+replies_err : {E : Type 0} (e : E) (event : Event) (o : Option Reply) (position : ℕ)
+    (answer : Answer) (last : Receipt) (a b : List Receipt)
+    → b ≡ a ++ record { position = position; event = event; answer = answer } ∷ []
+    → Some last ≡ slice_get b (length b - 1) → o ≡ reply_of last.answer
+    → OnErr (ok_or o e) (Adds (RanOut event) a b)
+replies_err e event (Some reply) position answer last a b behind at is = tt
+replies_err e event None position answer last a b behind at is =
+    ran_made event position answer last a b behind at (sym is)
+
+received_behind : (opening : Setup) (sent event : Event) (position : ℕ) (a b : List Receipt)
+    → sent ≡ event → (r : Receives opening a b sent position)
+    → b ≡ a ++ record { position = position; event = event; answer = r.answer } ∷ []
+received_behind opening sent event position a b is r =
+    r.receipt ∙ ap (λ (x : Event). a ++ record { position = position; event = x; answer = r.answer } ∷ []) is
+
+-- a call that was made, by what is made of the last receipt
+pub called_ok : {E U : Type 0} (e : E) (opening : Setup) (outcome : Result ℕ U) (sent event : Event)
+    (o : Option Reply) (last : Receipt) (a b : List Receipt) → is_err outcome ≡ false
+    → IfOk outcome (λ position. Receives opening a b sent position) → sent ≡ event
+    → Some last ≡ slice_get b (length b - 1) → o ≡ reply_of last.answer
+    → IfOk (ok_or o e) (λ reply. Makes (IsCall event reply) a b)
+called_ok e opening (Ok position) sent event o last a b made received is at replies =
+    replies_ok e event o position received.answer last a b
+    (received_behind opening sent event position a b is received) at replies
+called_ok e opening (Err u) sent event o last a b made received is at replies =
+    absurd (false≢true (sym made))
+
+pub called_err : {E U : Type 0} (e : E) (opening : Setup) (outcome : Result ℕ U) (sent event : Event)
+    (o : Option Reply) (last : Receipt) (a b : List Receipt) → is_err outcome ≡ false
+    → IfOk outcome (λ position. Receives opening a b sent position) → sent ≡ event
+    → Some last ≡ slice_get b (length b - 1) → o ≡ reply_of last.answer
+    → OnErr (ok_or o e) (Adds (RanOut event) a b)
+called_err e opening (Ok position) sent event o last a b made received is at replies =
+    replies_err e event o position received.answer last a b
+    (received_behind opening sent event position a b is received) at replies
+called_err e opening (Err u) sent event o last a b made received is at replies =
+    absurd (false≢true (sym made))
 
 -- a call that is answered in the end
 pub call_behind : (event : Event) (reply : Reply) (a b c : List Receipt) → Adds (RanOut event) a b

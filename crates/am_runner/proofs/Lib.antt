@@ -1,2 +1,4 @@
 pub mod CallLemmas
+pub mod PartLemmas
 pub mod RoleLemmas
+pub mod RunLemmas

@@ -1,5 +1,5 @@
 -- What the calls of a role come to.
-use Rattle.std.proofs.Common.{◌≡◌, ◌⊎◌, ℕ, zero, suc, ◌+◌, Bool, true, false, List, [], ◌∷◌, ◌++◌, Option, Some, None, Result, Ok, Err, refl, sym, ap, ◌∙◌, subst, append_assoc, inl, inr, arith, All, IfOk, OnErr}
+use Rattle.std.proofs.Common.{◌≡◌, ℕ, ◌+◌, Bool, true, false, List, [], ◌∷◌, ◌++◌, Option, Some, None, Result, Ok, Err, refl, sym, ap, ◌∙◌, subst, append_assoc, inl, inr, arith, All, IfOk, OnErr, MatchBool}
 use Rattle.std.proofs.lemmas.Bool.{false≢true}
 use Rattle.std.proofs.lemmas.List.{append-nil}
 use Rattle.std.proofs.lemmas.List.Elements.{All-nil, All-append, All-same, All-weaker}
@@ -9,9 +9,9 @@ use Rattle.am_machine.specs.declared.event.Event.TheVariants as events
 use Rattle.am_pipe.specs.{Note}
 use Rattle.am_shared.specs.{Receipt}
 use Rattle.am_runner.specs.{Reply, Adds, Makes, IsOf, RanOut, IsCall, AreMany, has_to_wait, is_wait, is_arrival, is_done, job_of}
-use Rattle.am_runner.specs.{resume, GoesOn, Waits, Settles, Leaves, IsRound, IsOfSettling, IsOfRound, IsCallOf, IsBreak, IsOfBreaker, delivery, IsActOf, IsAct, IsEnd, IsWork, IsWorkOf, IsService, AreActsBehind, IsBrokenOff, IsTried, AreEach, Serves}
+use Rattle.am_runner.specs.{resume, GoesOn, Settles, Leaves, IsRound, IsOfSettling, IsOfRound, IsCallOf, IsBreak, IsOfBreaker, delivery, IsActOf, IsAct, IsEnd, IsWork, IsWorkOf, IsService, GivesUp, IsBrokenOff, IsGivenUp, IsTried, AreEach, Serves}
 use Rattle.am_runner.specs.declared.calls.Reply.TheVariants as replies
-use Rattle.am_runner.proofs.CallLemmas.{adds_none, adds_more, adds_as, makes_none, makes_as, makes_both, makes_adds, ran_is, each_of_call, each_of_many, many_more, many_out}
+use Rattle.am_runner.proofs.CallLemmas.{adds_more, adds_as, makes_none, makes_as, makes_both, makes_adds, ran_is, each_of_call, each_of_many, many_more, many_out}
 
 -- ---- walkers
 
@@ -292,6 +292,13 @@ act_last job failure reply a b =
     makes_as (IsCall (events.Act job failure) reply) (IsEnd job) a b
     (λ m one. inr (reply, (failure, one)))
 
+-- an act, by whether that is done
+pub act_reply : (job : ℕ) (failure : Option FailNo) (reply : Reply) (done : Bool) (a b : List Receipt)
+    → is_done reply ≡ done → Makes (IsCall (events.Act job failure) reply) a b
+    → MatchBool done (Makes (IsAct job replies.Done) a b) (Makes (IsEnd job) a b)
+act_reply job failure reply true a b is call = act_done job failure reply a b is call
+act_reply job failure reply false a b is call = act_last job failure reply a b call
+
 pub act_out : (job : ℕ) (failure : Option FailNo) (a b : List Receipt)
     → Adds (RanOut (events.Act job failure)) a b → Adds (IsActOf job) a b
 act_out job failure a b =
@@ -375,13 +382,37 @@ work_out x reply job a b c is call ran = record {
   };
 }
 
-pub tried_service : (x : ℕ × Note) (a b : List Receipt) → Makes (IsService x) a b
-    → Makes (IsTried x) a b
-tried_service x a b = makes_as (IsService x) (IsTried x) a b (λ m is. inl is)
+pub tried_service : (fs : ℕ) (x : ℕ × Note) (a b : List Receipt) → Makes (IsService x) a b
+    → Makes (IsTried fs x) a b
+tried_service fs x a b = makes_as (IsService x) (IsTried fs x) a b (λ m is. inl is)
 
-pub tried_broken : (x : ℕ × Note) (a b : List Receipt) → Makes (IsBrokenOff x) a b
-    → Makes (IsTried x) a b
-tried_broken x a b = makes_as (IsBrokenOff x) (IsTried x) a b (λ m is. inr is)
+pub tried_given_up : (fs : ℕ) (x : ℕ × Note) (a b : List Receipt) → Makes (IsGivenUp fs x) a b
+    → Makes (IsTried fs x) a b
+tried_given_up fs x a b = makes_as (IsGivenUp fs x) (IsTried fs x) a b (λ m is. inr is)
+
+pub gave_nothing : (fs : ℕ) (a b : List Receipt) → b ≡ a → Makes (GivesUp fs) a b
+gave_nothing fs a b is =
+    subst (λ (xs : List Receipt). Makes (GivesUp fs) a xs) (sym is)
+    (makes_none (GivesUp fs) a (inl refl))
+
+pub gave_up : (fs : ℕ) (a b : List Receipt) (receipt : Receipt) → b ≡ a ++ receipt ∷ []
+    → receipt.event ≡ events.AdminCatatonic fs → Makes (GivesUp fs) a b
+gave_up fs a b receipt behind is = record {
+  made = receipt ∷ [];
+  behind = behind;
+  are = inr (receipt, refl, is);
+}
+
+pub broken_and_given_up : (fs : ℕ) (x : ℕ × Note) (a b c : List Receipt)
+    → Makes (IsBrokenOff x) a b → Makes (GivesUp fs) b c → Makes (IsGivenUp fs x) a c
+broken_and_given_up fs x =
+    makes_both (IsBrokenOff x) (GivesUp fs) (IsGivenUp fs x) (λ m n broken gives. record {
+      tried = m;
+      gave = n;
+      in_turn = refl;
+      broken_off = broken;
+      gives_up = gives;
+    })
 
 pub serves_none : (P : ℕ × Note → List Receipt → Type 0) (got : List (ℕ × Note))
     (a : List Receipt) → Serves P got got a a

@@ -1,11 +1,10 @@
 -- What each role of a run makes, the receipts of its caller: own choice (docs/DECISIONS.md, "A
 -- worker gives up a job at any refusal").
-use Rattle.std.specs.Prelude.{◌≡◌, ◌⊎◌, ℕ, zero, suc, Bool, true, false, List, [], ◌∷◌, ◌++◌, All, Any, Option, Some, None}
+use Rattle.std.specs.Prelude.{◌≡◌, ◌⊎◌, ℕ, Bool, true, false, List, [], ◌∷◌, ◌++◌, All, Option, Some, None}
 use Rattle.am_names.specs.declared.fail_no.FailNo.{FailNo}
 use Rattle.am_names.specs.declared.trigger.PipeState.TheVariants.{Room}
 use Rattle.am_machine.specs.{Event}
 use Rattle.am_machine.specs.declared.event.Event.TheVariants as events
-use Rattle.am_machine.specs.declared.answer.Answer.TheVariants as answers
 use Rattle.am_pipe.specs.{Note}
 use Rattle.am_shared.specs.{Receipt}
 use Rattle.am_runner.specs.declared.calls.Reply.{Reply}
@@ -156,9 +155,22 @@ pub record IsBrokenOff (taken : ℕ × Note) (made : List Receipt) : Type 0 wher
   pub each : All (IsOf (delivery taken)) delivers
   pub acts : (works ≡ []) ⊎ AreActsBehind taken delivers works
 
--- a service, or one that was broken off
-abbrev pub IsTried : ℕ × Note → List Receipt → Type 0
-IsTried taken made = IsService taken made ⊎ IsBrokenOff taken made
+-- who gives up has the file system made catatonic, if there is room for that
+abbrev pub GivesUp : ℕ → List Receipt → Type 0
+GivesUp fs made =
+    (made ≡ []) ⊎ ((receipt : Receipt) × (made ≡ receipt ∷ []) × IsOf (events.AdminCatatonic fs) receipt)
+
+-- a service that was broken off, and given up
+pub record IsGivenUp (fs : ℕ) (taken : ℕ × Note) (made : List Receipt) : Type 0 where
+  pub tried : List Receipt
+  pub gave : List Receipt
+  pub in_turn : made ≡ tried ++ gave
+  pub broken_off : IsBrokenOff taken tried
+  pub gives_up : GivesUp fs gave
+
+-- a service, or one that was given up
+abbrev pub IsTried : ℕ → ℕ × Note → List Receipt → Type 0
+IsTried fs taken made = IsService taken made ⊎ IsGivenUp fs taken made
 
 -- what was made of these notes, one behind the other
 abbrev pub AreEach : (ℕ × Note → List Receipt → Type 0) → List (ℕ × Note) → List Receipt → Type 0

@@ -1,15 +1,20 @@
 -- What a run of threads comes to: own choice (docs/DECISIONS.md, "Rounds that don't add up are out
 -- of memory").
-use Rattle.std.specs.Prelude.{◌≡◌, ℕ, ◌+◌, ◌*◌, ◌&&◌, Bool, true, false, List, length, not, if◌then◌else◌, nat_lt}
+use Rattle.std.specs.Prelude.{◌≡◌, ℕ, ◌-◌, ◌*◌, ◌^◌, ◌&&◌, Bool, true, false, List, [], ◌∷◌, ◌++◌, codes, Ok, not}
 use Rattle.std.specs.List.{count_by}
+use Rattle.am_map.specs.{Row, map_read}
+use Rattle.am_map.specs.declared.kind.MapKind.TheVariants.{Indirect}
+use Rattle.am_master.specs.{master_read}
 use Rattle.am_names.specs.declared.errno.Errno.TheVariants.{NoMemory}
 use Rattle.am_state.specs.{Obs}
 use Rattle.am_state.specs.declared.obs.Obs.TheVariants.{Entered, Left}
 use Rattle.am_machine.specs.{Event, Answer, Entry, Setup}
 use Rattle.am_machine.specs.declared.event.Event.TheVariants.{Walk}
 use Rattle.am_machine.specs.declared.answer.Answer.TheVariants.{Refused}
+use Rattle.am_pipe.specs.{Note, Taker, taken_by}
 use Rattle.am_shared.specs.Sharing.{Sharing}
-use Rattle.am_shared.specs.{IsSharedFrom, Matches, Receipt}
+use Rattle.am_shared.specs.{AreThePackets, IsSharedFrom, Matches, Receipt, waiting}
+use Rattle.am_runner.specs.Parts.{Plan, TakePart}
 use Rattle.am_runner.specs.declared.tally.Tally.{Tally}
 
 -- memory ran out
@@ -36,17 +41,18 @@ abbrev pub is_left : Obs → Bool
 is_left (Left walker mount) = true
 is_left obs = false
 
--- who lets the daemon die, if it is to
-abbrev pub breakers : ℕ → ℕ
-breakers breaks = if nat_lt 0 breaks then 1 else 0
-
--- A run over a world that began with this opening, by so many callers. The history is that of a
--- single thread, and each of its entries is the receipt of one caller, once.
-pub record IsRun (opening : Setup) (callers : ℕ) (s : Sharing) : Type 0 where
+-- A run over a world that began with this opening: the history is that of a single thread, and each of its entries is
+-- the receipt, once, of one of those who took part. What their ends of the pipe took, what is left in it, and what waits
+-- for room in it are the packets of the trace, each once. The pipe has as much room as was asked for.
+pub record IsRun (opening : Setup) (plan : Plan) (workers : ℕ) (s : Sharing) : Type 0 where
   pub from : IsSharedFrom opening s
-  pub receipts : List (List Receipt)
-  pub all : length receipts ≡ callers
-  pub matched : Matches s.history receipts
+  pub callers : List (List Receipt)
+  pub takers : List Taker
+  pub take_part : TakePart plan s.put.pipe workers takers callers
+  pub matched : Matches s.history callers
+  pub left : List (ℕ × Note)
+  pub packets : AreThePackets s ((taken_by takers ++ left) ++ waiting s)
+  pub room : s.put.room ≡ plan.capacity
 
 -- the rounds of a history, and how often its walkers entered and left a mount
 pub record IsTallyOf (tally : Tally) (s : Sharing) : Type 0 where
@@ -54,11 +60,36 @@ pub record IsTallyOf (tally : Tally) (s : Sharing) : Type 0 where
   pub entered : tally.entered ≡ count_by is_entered s.world.trace
   pub left : tally.left ≡ count_by is_left s.world.trace
 
+-- what a run of threads begins with: an autofs at /auto, of a map in which each key is found, and room for as much
+-- as there can be
+pub record IsAuto (opening : Setup) : Type 0 where
+  pub mounts : opening.limits.mounts ≡ 2 ^ 32 - 1
+  pub waiters : opening.limits.waiters ≡ 65536
+  pub tokens : opening.limits.tokens ≡ 2 ^ 32 - 1
+  pub negative : opening.limits.negative ≡ 0
+  pub master_is : master_read (codes "/auto auto.home") ≡ Ok opening.master
+  pub rows : List Row
+  pub map_is : map_read Indirect (codes "* srv:/&") ≡ Ok rows
+  pub maps_are : opening.maps ≡ rows ∷ []
+
+-- two paths for so many walkers, each of which makes so many rounds, and the daemon doesn't die; the pipe has room for
+-- 64 notes
+abbrev pub auto_plan : ℕ → ℕ → Plan
+auto_plan walkers rounds = record {
+  point = codes "/auto";
+  paths = codes "/auto/k0" ∷ codes "/auto/k1" ∷ [];
+  walkers = walkers;
+  rounds = rounds;
+  breaks = 0;
+  capacity = 64;
+}
+
 -- The tally of a run of so many walkers and workers, and an expirer: of rounds it counts what was
 -- asked for.
 pub record IsTally (walkers workers rounds : ℕ) (tally : Tally) : Type 0 where
   pub opening : Setup
+  pub is_auto : IsAuto opening
   pub shared : Sharing
-  pub run : IsRun opening (walkers + workers + 1) shared
+  pub run : IsRun opening (auto_plan walkers rounds) workers shared
   pub tally_is : IsTallyOf tally shared
   pub asked : tally.rounds ≡ walkers * rounds

@@ -98,7 +98,12 @@ fn call_once<L: Opened, R: Wait>(
     ensures err { OnErr result (Adds (RanOut event.now) caller.old caller.new) }
 {
     let event = event.copy(alloc)?;
-    let receipt = caller.call(rt, alloc, event)?;
+    if caller.call(rt, alloc, event).is_err() {
+        return Err(AllocError);
+    }
+    let Some(receipt) = caller.receipt() else {
+        unreachable!()
+    };
     reply_to(&receipt.answer).ok_or(AllocError)
 }
 

@@ -8,7 +8,7 @@ ghost use Rattle.am_runner.specs.Roles.{IsRound, Settles, resume as resume_of, w
 use crate::calls::{Reply, call};
 use am_machine::Event;
 use am_names::{AbsPath, FsId, NsId, PipeState, Seconds, WalkerId};
-use am_shared::{Caller, Opened};
+use am_shared::{Caller, Opened, Shared};
 use std::alloc::{AllocError, Global};
 use std::sync::Wait;
 
@@ -23,7 +23,7 @@ fn resume<L: Opened, R: Wait>(
         (λ reply. Makes (IsCall (resume_of walker) reply) caller.old caller.new) }
     ensures err { OnErr result (Adds (RanOut (resume_of walker)) caller.old caller.new) }
 {
-    caller.wait_release(rt, walker);
+    caller.wait_release(rt, walker, |_shared: &Shared| ());
     let resume = Event::Resume {
         walker,
         now: Seconds(0),

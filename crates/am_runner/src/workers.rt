@@ -1,21 +1,21 @@
 //! Who serves: the daemon's workers.
 
-ghost use Rattle.std.specs.Prelude.{◌≡◌, IfOk, MatchBool, OnErr, OnOk};
+ghost use Rattle.std.specs.Prelude.{◌≡◌, true, IfOk, MatchBool, OnErr, OnOk};
 ghost use Rattle.am_runner.specs.declared.calls.Reply.TheVariants.{Done};
 ghost use Rattle.am_runner.specs.Calls.{Adds, Makes};
-ghost use Rattle.am_runner.specs.Roles.{IsAct, IsActOf, IsBrokenOff, IsEnd, IsService, IsTried};
-ghost use Rattle.am_runner.specs.Roles.{IsWork, Serves};
+ghost use Rattle.am_runner.specs.Roles.{GivesUp, IsAct, IsActOf, IsBrokenOff, IsEnd, IsGivenUp};
+ghost use Rattle.am_runner.specs.Roles.{IsService, IsTried, IsWork, Serves};
+ghost use Rattle.am_runner.specs.Tasks.{IsNextIn, IsSeen};
 
 use crate::calls::{TRIES, call};
-use am_job::Act;
+use crate::tasks::{Task, next_in};
 use am_machine::Event;
 use am_map::Entry;
-use am_names::{FailNo, JobId, Trigger};
+use am_names::{FailNo, FsId, JobId, Place, Trigger};
 use am_pipe::{Note, TakeEnd};
 use am_shared::{Caller, Opened, Shared};
 use std::alloc::{AllocError, Global};
 use std::sync::Wait;
-use std::sync::atomic::{AtomicBool, Ordering};
 use std::thread;
 
 /// What a worker passes with the token of a job, behind its delivery and before its first act. It
@@ -24,44 +24,63 @@ pub trait Gate {
     fn pass(&self, call: u32);
 }
 
+/// What a worker is to mount, and where.
+#[derive(Clone, Copy)]
+pub struct Errand<'a> {
+    pub trigger: &'a Trigger,
+    /// The path of the trigger: that at which the daemon was attached to its file system, and behind it the name of an
+    /// indirect trigger.
+    pub path: &'a Place,
+    /// What the entry of the map says.
+    pub entry: &'a Entry,
+}
+
 /// What mounts and unmounts for a worker, and tells with which number that failed, if it did. The
 /// worker doesn't hold the lock meanwhile.
 pub trait Backend {
-    /// Mounts what the entry of a map says where the trigger is.
-    fn mount(&mut self, trigger: &Trigger, entry: &Entry) -> Result<(), FailNo>;
+    fn mount(&mut self, errand: &Errand<'_>) -> Result<(), FailNo>;
 
-    /// Unmounts what is mounted there.
-    fn umount(&mut self, trigger: &Trigger) -> Result<(), FailNo>;
+    /// Unmounts what is mounted on the trigger, at its path.
+    fn umount(&mut self, trigger: &Trigger, path: &Place) -> Result<(), FailNo>;
 }
 
-/// Does without the lock what an act asks for. Tells the number of its failure, if it failed.
-fn perform<B: Backend>(backend: &mut B, act: &Act) -> Option<FailNo> {
-    match act {
-        Act::Mount { trigger, entry } => backend.mount(trigger, entry).err(),
-        Act::Umount { trigger } => backend.umount(trigger).err(),
-        _ => None,
+/// Does without the lock what a task asks for. Tells the number of its failure, if it failed.
+fn perform<B: Backend>(backend: &mut B, task: &Task) -> Option<FailNo> {
+    match task {
+        Task::Mount {
+            trigger,
+            path,
+            entry,
+        } => backend
+            .mount(&Errand {
+                trigger,
+                path,
+                entry,
+            })
+            .err(),
+        Task::Umount { trigger, path } => backend.umount(trigger, path).err(),
+        Task::Other => None,
+        Task::Nowhere => Some(FailNo::ENOENT),
     }
 }
 
-fn copied(alloc: Global, act: Option<&Act>) -> Result<Option<Act>, AllocError> {
-    match act {
-        Some(act) => Ok(Some(act.copy(alloc)?)),
-        None => Ok(None),
-    }
-}
-
-/// The act of a job that comes next; none where there is no such job any more. Asked for again
+/// The task of a job that comes next; none where there is no such job any more. Asked for again
 /// where memory runs out.
-fn next_act<L: Opened, R: Wait>(
+fn next_task<L: Opened, R: Wait>(
     rt: &R,
     alloc: Global,
-    caller: &Caller<L>,
+    caller: &mut Caller<L>,
     job: JobId,
-) -> Result<Option<Act>, AllocError> {
+) -> Result<Option<Task>, AllocError>
+    ensures receipts { caller.new ≡ caller.old }
+    ensures found { IfOk result (IsSeen L.opening caller.old job) }
+{
     for _ in 0..TRIES {
         let found = caller.look(
             rt,
-            |shared: &Shared| copied(alloc, shared.world().next_act(job)),
+            |shared: &Shared| -> Result<Option<Task>, AllocError>
+                ensures { IfOk result (IsNextIn shared.now job) }
+            { next_in(alloc, shared, job) },
         );
         if found.is_ok() {
             return found;
@@ -84,10 +103,10 @@ fn act<L: Opened, B: Backend, R: Wait>(
         (Makes (IsEnd job) caller.old caller.new)) }
     ensures err { OnErr result (Adds (IsActOf job) caller.old caller.new) }
 {
-    let Some(act) = next_act(rt, alloc, caller, job)? else {
+    let Some(task) = next_task(rt, alloc, caller, job)? else {
         return Ok(false);
     };
-    let failure = perform(backend, &act);
+    let failure = perform(backend, &task);
     let reply = call(rt, alloc, caller, &Event::Act { job, failure })?;
     Ok(reply.is_done())
 }
@@ -137,40 +156,62 @@ fn serve<L: Opened, G: Gate, B: Backend, R: Wait>(
     finish(rt, alloc, caller, job, backend)
 }
 
-/// Takes notes and serves them, until it is told to stop and finds none. Where memory runs out for
-/// good, nobody is to wait for what isn't done: it tells that, goes on with the next note, and tells
-/// in the end that memory ran out.
+/// Gives up where memory is short: the file system becomes catatonic.
+fn give_up<L: Opened, R: Wait>(rt: &R, alloc: Global, caller: &mut Caller<L>, fs: FsId)
+    ensures { Makes (GivesUp fs) caller.old caller.new }
+{
+    let _position = caller.give_up(rt, alloc, fs);
+}
+
+/// Serves a note, or gives up where memory runs out for good.
+fn serve_or_give_up<L: Opened, G: Gate, B: Backend, R: Wait>(
+    rt: &R,
+    alloc: Global,
+    caller: &mut Caller<L>,
+    taken: &(u64, Note),
+    fs: FsId,
+    gate: &G,
+    backend: &mut B,
+) -> Result<(), AllocError>
+    ensures ok { OnOk result (Makes (IsService taken.now) caller.old caller.new) }
+    ensures err { OnErr result (Makes (IsGivenUp fs taken.now) caller.old caller.new) }
+{
+    match serve(rt, alloc, caller, taken, gate, backend) {
+        Ok(()) => Ok(()),
+        Err(_) => {
+            give_up(rt, alloc, caller, fs);
+            Err(AllocError)
+        }
+    }
+}
+
+/// Takes notes and serves them, until the pipe is closed and it finds none; it sleeps while there is none. Where
+/// memory runs out for good, nobody is to wait for what isn't done: the file system becomes catatonic, as by its
+/// administrator, which room was kept for. The worker goes on with the next note, and tells in the end that memory
+/// ran out.
 pub fn daemon_worker<L: Opened, G: Gate, B: Backend, R: Wait>(
     rt: &R,
     alloc: Global,
     caller: &mut Caller<L>,
     taker: &mut TakeEnd,
+    fs: FsId,
     gate: &G,
     backend: &mut B,
-    stop: &AtomicBool,
 ) -> Result<(), AllocError>
     ensures pipe { taker.new.pipe ≡ taker.old.pipe }
+    ensures over { taker.new.over ≡ true }
     ensures ok { OnOk result (Serves IsService taker.old.got taker.new.got caller.old caller.new) }
-    ensures err { OnErr result (Serves IsTried taker.old.got taker.new.got caller.old caller.new) }
+    ensures err { OnErr result
+        (Serves (IsTried fs) taker.old.got taker.new.got caller.old caller.new) }
 {
     let mut outcome = Ok(());
     for _ in rt.forever() {
-        // Read before the take: what was put before the flag was set is found.
-        let is_over = stop.load(Ordering::SeqCst);
-        match taker.take(rt) {
-            Some(taken) => match serve(rt, alloc, caller, &taken, gate, backend) {
-                Ok(()) => {}
-                Err(_) => {
-                    caller.give_up(rt);
-                    outcome = Err(AllocError);
-                }
-            },
-            None => {
-                if is_over {
-                    return outcome;
-                }
-                thread::yield_now();
-            }
+        let Some(taken) = taker.wait(rt) else {
+            return outcome;
+        };
+        match serve_or_give_up(rt, alloc, caller, &taken, fs, gate, backend) {
+            Ok(()) => {}
+            Err(_) => outcome = Err(AllocError),
         }
     }
     unreachable!()

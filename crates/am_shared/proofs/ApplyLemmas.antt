@@ -1,6 +1,6 @@
 -- One event more.
-use Rattle.std.proofs.Common.{◌≡◌, ℕ, ◌+◌, ◌≤◌, List, [], ◌∷◌, ◌++◌, length, length-append, drop}
-use Rattle.std.proofs.Common.{refl, sym, ap, ◌∙◌, subst, arith, append_assoc}
+use Rattle.std.proofs.Common.{◌≡◌, ℕ, ◌+◌, ◌<◌, ◌≤◌, List, [], ◌∷◌, ◌++◌, length, length-append, drop}
+use Rattle.std.proofs.Common.{refl, sym, ap, ◌∙◌, subst, arith, append_assoc, inl, inr, ⊎_elim}
 use Rattle.std.proofs.Math.Seq.{drop-append_seam}
 use Rattle.am_state.specs.{Obs}
 use Rattle.am_machine.specs.{Event, Answer, Setup, setup_of, initial_state_of, Step, Run, IsLegal, Entry, entry, events_of, answers_of}
@@ -9,8 +9,8 @@ use Rattle.am_machine.proofs.Consistent.{step_lawful}
 use Rattle.am_world.specs.Capacity.{state_of}
 use Rattle.am_world.specs.{WorldTable}
 use Rattle.am_world.proofs.TableLemmas.{state_is}
-use Rattle.am_pipe.specs.{Note}
-use Rattle.am_shared.specs.{notes_of, IsShared, IsSharedFrom, Applies}
+use Rattle.am_pipe.specs.{IsFull, Note, Putter}
+use Rattle.am_shared.specs.{notes_of, IsFlushed, IsFlushedSince, IsKept, IsShared, IsSharedFrom, Applies}
 use Rattle.am_shared.specs.Sharing.{Sharing}
 use Rattle.am_machine.proofs.Histories.{legal_more}
 use Rattle.am_shared.proofs.NoteLemmas.{notes_append, notes_count}
@@ -68,6 +68,24 @@ kept_notes s t event answer sent unsent collected put left step all flushed note
     ∙ sym (append_assoc sent unsent more) ∙ ap (λ l. l ++ more) notes
     ∙ sym (notes_append s.trace step.0) ∙ ap notes_of (sym (trace_grown_by s t event answer step))
 
+pub flushed_now : (looks : ℕ) (put : Putter) (unsent : List Note) → IsFlushedSince looks put unsent
+    → IsFlushed put unsent
+flushed_now looks put unsent = ⊎_elim (λ none. inl none) (λ (full : (looks < put.looks) × IsFull put). inr full.1)
+
+-- so all of it is kept
+pub kept_after : (s t : WorldTable) (event : Event) (answer : Answer) (history later : List Entry)
+    (sent unsent collected : List Note) (looks : ℕ) (put : Putter) (left : List Note)
+    → Stepped s event answer t → later ≡ history ++ entry event answer ∷ []
+    → collected ≡ unsent ++ notes_of (drop (length s.trace) t.trace)
+    → put.sent ++ left ≡ sent ++ collected → IsFlushedSince looks put left
+    → IsLegal history (state_of s) → sent ++ unsent ≡ notes_of s.trace
+    → IsKept (record { world = t; history = later; put = put; unsent = left })
+kept_after s t event answer history later sent unsent collected looks put left step is all puts flushed legal notes = record {
+  legal = kept_legal s t event answer history later step is legal;
+  notes = kept_notes s t event answer sent unsent collected put.sent left step all puts notes;
+  flushed = flushed_now looks put left flushed;
+}
+
 -- the opening stays
 pub kept_opening : (old new : Sharing) (event : Event) (position : ℕ) (answer : Answer)
     → Applies old new event position answer
@@ -81,7 +99,7 @@ pub shared_from : (o : Setup) (s : Sharing) → IsShared s → setup_of (state_o
 shared_from o s h is = record {
   run = subst
       (λ (x : Setup). Run (initial_state_of x) (events_of s.history) (answers_of s.history) (state_of s.world))
-      is h.legal;
+      is h.kept.legal;
   shared = h;
 }
 
@@ -97,3 +115,12 @@ new_legal o s is =
 pub new_notes : (o : Setup) (t : WorldTable) → state_of t ≡ initial_state_of o → notes_of t.trace ≡ []
 new_notes o t is =
     ap (λ (s : State). notes_of s.trace) (sym (state_is t) ∙ is)
+
+pub new_kept : (o : Setup) (t : WorldTable) (history : List Entry) (put : Putter) (unsent : List Note)
+    → state_of t ≡ initial_state_of o → history ≡ [] → put.sent ≡ [] → unsent ≡ []
+    → IsKept (record { world = t; history = history; put = put; unsent = unsent })
+new_kept o t history put unsent is none sent waiting = record {
+  legal = subst (λ (l : List Entry). IsLegal l (state_of t)) (sym none) (new_legal o (state_of t) is);
+  notes = (λ i. sent i ++ waiting i) ∙ sym (new_notes o t is);
+  flushed = inl (ap length waiting);
+}

@@ -1,8 +1,19 @@
 pub mod Notes
 pub mod Sharing
 pub mod Matching
+pub mod Calls
+pub mod Chronicle
+pub mod Passes
+pub mod Opening
+pub mod Packets
+pub mod Parts
 -- what contracts cite, passed on from one place
 pub use Matching.{Agrees, AllAgree, AllAway, AtMostOnce, EachAgree, EachRise, Matches, Rise, count_in, times, times_in}
-pub use Notes.{before, note, note_at, notes_of}
-pub use Sharing.{Applies, IsShared, IsSharedFrom}
+pub use Notes.{IsFlushed, IsFlushedSince, before, is_released, note, note_at, notes_of}
+pub use Opening.{no_table, opening_of}
+pub use Packets.{AreThePackets, waiting}
+pub use Parts.{HasRoom, sharing_of}
+pub use Sharing.{Applies, IsKept, IsSamePut, IsShared, IsSharedFrom, has_to_wait, is_held_up}
 pub use declared.caller.Receipt.{Receipt}
+pub use Calls.{Receives, Stands, StandsLast, all_calls, call_of, calls_of}
+pub use declared.chronicle.Known.{Known}

@@ -1,11 +1,11 @@
 -- The notes of what the kernel queued
 -- (autofs.rst, "Communicating with autofs: the event pipe").
-use Rattle.std.specs.Prelude.{◌≡◌, ◌≤◌, ◌+◌, ◌^◌, ◌⊎◌, ℕ, List, [], ◌∷◌, length}
+use Rattle.std.specs.Prelude.{◌≡◌, ◌<◌, ◌⊎◌, ℕ, Bool, true, false, List, [], ◌∷◌, length}
 use Rattle.std.specs.Prelude.{Option, Some, None}
 use Rattle.am_wire.specs.{Packet, fields_of, canonical}
 use Rattle.am_state.specs.{Obs}
-use Rattle.am_state.specs.declared.obs.Obs.TheVariants.{Queued}
-use Rattle.am_pipe.specs.{Note, Putter}
+use Rattle.am_state.specs.declared.obs.Obs.TheVariants.{Queued, Released}
+use Rattle.am_pipe.specs.{IsFull, Note, Putter}
 
 -- a packet with its token and its attachment, in its canonical bytes
 abbrev pub note : ℕ → ℕ → Packet → Note
@@ -27,8 +27,15 @@ abbrev pub notes_of : List Obs → List Note
 notes_of [] = []
 notes_of (obs ∷ rest) = before (note_at obs) (notes_of rest)
 
--- No note waits to be put, or as many were put as the pipe has room for, or its positions are
--- spent. A put end can't know how many of them were taken.
+-- no note waits to be put, or the pipe was full when the put end looked last
 abbrev pub IsFlushed : Putter → List Note → Type 0
-IsFlushed put unsent =
-    (length unsent ≡ 0) ⊎ ((put.room ≤ length put.sent) ⊎ (2 ^ 64 ≤ length put.sent + 1))
+IsFlushed put unsent = (length unsent ≡ 0) ⊎ IsFull put
+
+-- the same, where it has looked since
+abbrev pub IsFlushedSince : ℕ → Putter → List Note → Type 0
+IsFlushedSince looks put unsent = (length unsent ≡ 0) ⊎ ((looks < put.looks) × IsFull put)
+
+-- a walker is released
+abbrev pub is_released : Obs → Bool
+is_released (Released walker token status) = true
+is_released _ = false

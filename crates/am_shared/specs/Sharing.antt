@@ -1,7 +1,8 @@
 -- What lies under the lock: own choice (docs/DECISIONS.md, "A shared world has one lock" and "A
 -- note is put while the lock is held, and taken without it").
-use Rattle.std.specs.Prelude.{◌≡◌, ℕ, List, [], ◌∷◌, ◌++◌, length}
+use Rattle.std.specs.Prelude.{◌≡◌, ℕ, Bool, false, Option, Some, None, List, [], ◌∷◌, ◌++◌, length}
 use Rattle.am_state.specs.{Obs}
+use Rattle.am_wait.specs.{still_waits, wait_of}
 use Rattle.am_laws.specs.{Lawful}
 use Rattle.am_machine.specs.{Event, Answer, Agree, AreInStep, IsReached, IsTold, Setup, initial_state_of, Step, Run, IsLegal, Entry, entry, events_of, answers_of}
 use Rattle.am_world.specs.Capacity.{state_of}
@@ -17,14 +18,18 @@ pub record Sharing : Type 0 where
   pub put : Putter
   pub unsent : List Note
 
--- what holds of it whenever the lock is free
-pub record IsShared (s : Sharing) : Type 0 where
+-- what is kept by each event
+pub record IsKept (s : Sharing) : Type 0 where
   -- the history is one of a single thread, and ends in the world
   pub legal : IsLegal s.history (state_of s.world)
   -- the notes that were put, and then those that wait, are those of all queued packets
   pub notes : s.put.sent ++ s.unsent ≡ notes_of s.world.trace
-  -- they wait only where the pipe may be full
+  -- they wait only where the pipe was full
   pub flushed : IsFlushed s.put s.unsent
+
+-- what holds of it whenever the lock is free
+pub record IsShared (s : Sharing) : Type 0 where
+  pub kept : IsKept s
   pub lawful : Lawful s.world.trace
   -- the world is what its trace tells, and came by a run along paths, of which each law is said
   pub tells : IsTold (state_of s.world)
@@ -38,6 +43,12 @@ pub record IsSharedFrom (opening : Setup) (s : Sharing) : Type 0 where
   pub run : Run (initial_state_of opening) (events_of s.history) (answers_of s.history) (state_of s.world)
   pub shared : IsShared s
 
+-- the put end is still that of the same pipe, with as many take ends and as much room
+pub record IsSamePut (old new : Putter) : Type 0 where
+  pub pipe : new.pipe ≡ old.pipe
+  pub takers : new.takers ≡ old.takers
+  pub room : new.room ≡ old.room
+
 -- The event was applied: the world made a step with this answer, and the pair is the last of the
 -- history, at this position.
 pub record Applies (old new : Sharing) (event : Event) (position : ℕ)
@@ -46,3 +57,13 @@ pub record Applies (old new : Sharing) (event : Event) (position : ℕ)
   pub step : Step (state_of old.world) event answer seen (state_of new.world)
   pub history : new.history ≡ old.history ++ entry event answer ∷ []
   pub is_last : position ≡ length new.history
+  pub put : IsSamePut old.put new.put
+
+-- a walker has a wait that isn't acknowledged
+abbrev pub has_to_wait : ℕ → Sharing → Bool
+has_to_wait walker s = still_waits (wait_of s.world.kernel.waits.waits walker)
+
+-- so it is with what lies under the lock, where nothing lies there once all callers are gathered
+abbrev pub is_held_up : ℕ → Option Sharing → Bool
+is_held_up walker None = false
+is_held_up walker (Some s) = has_to_wait walker s

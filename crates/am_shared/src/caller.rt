@@ -1,25 +1,27 @@
 //! The threads' ways to a shared world.
 
-ghost use Rattle.std.specs.Prelude.{◌≡◌, ◌<◌, ◌+◌, ℕ, [], ◌∷◌, ◌++◌, length, vec_len, All};
-ghost use Rattle.std.specs.Prelude.{IfOk, OnOk, OnErr, true, false, if◌then◌else◌};
+ghost use Rattle.std.specs.Prelude.{◌≡◌, ◌<◌, ◌-◌, [], length, vec_len, All, option_copied, slice_get};
+ghost use Rattle.std.specs.Prelude.{IfOk, IfErr, OnOk, false};
 ghost use Rattle.std.specs.Sync.Mutex.{mutex_guard_value};
 ghost use Rattle.std.specs.Fn.{FnOnceReturnsAt};
-ghost use Rattle.am_names.specs.{IsInRange};
-ghost use Rattle.am_wait.specs.{still_waits, wait_of};
-ghost use Rattle.am_machine.specs.{setup_of};
-ghost use Rattle.am_world.specs.Capacity.{state_of};
-ghost use Rattle.am_shared.specs.Sharing.{Sharing, IsSharedFrom};
+ghost use Rattle.am_shared.specs.Calls.{Receives};
+ghost use Rattle.am_shared.specs.Chronicle.{caller as caller_with, keeper};
+ghost use Rattle.am_shared.specs.Matching.{AllAgree};
+ghost use Rattle.am_shared.specs.Opening.{opening_of};
+ghost use Rattle.am_shared.specs.Passes.{CallsOn, KeepsHistory, view_of};
+ghost use Rattle.am_shared.specs.Sharing.{Sharing, IsSharedFrom, has_to_wait, is_held_up};
 
+use crate::chronicle::{History, Pass, admit};
+use crate::desk::{Desk, Made};
+use crate::logbook::Logbook;
 use crate::opened::Opened;
-use crate::shared::Shared;
+use crate::opening::Opening;
+use crate::shared::{Shared, Uncalled};
 use am_machine::{Answer, Event};
-use am_map::Map;
-use am_master::Master;
-use am_names::{Limits, WalkerId};
+use am_names::{FsId, WalkerId};
 use am_pipe::PutEnd;
 use std::alloc::{AllocError, Global};
 use std::marker::Model;
-use std::sync::ledger::{Blank, Book, Share};
 use std::sync::{Arc, Condvar, Mutex, MutexGuard, Wait};
 
 /// An event that a caller made: its position in the history, from 1, the event, and its answer.
@@ -30,23 +32,14 @@ pub struct Receipt {
     pub answer: Answer,
 }
 
-/// What lies under the lock. The book counts the history, and the world began with the ledger's
-/// opening.
-#[derive(Drop)]
-pub struct Desk<L: Opened> {
-    pub shared: Shared,
-    book: Book<L>,
-    /// A caller won't make the events any more that others may wait for.
-    given_up: bool,
-    ghost counted: { length shared.history ≡ book.total },
-    ghost opened: { setup_of (state_of shared.world) ≡ L.opening },
-}
-
-/// The lock, and what tells that an event was applied.
+/// The lock, what tells those who wait that somebody was released, and the history that all callers
+/// share.
 #[derive(Drop)]
 pub struct Lock<L: Opened> {
     pub desk: Mutex<Desk<L>>,
-    moved: Condvar,
+    released: Condvar,
+    pub history: History,
+    ghost logbook: { history.shared.table_id ≡ L.logbook },
 }
 
 /// One thread's way to a shared world. A contract sees its receipts.
@@ -54,134 +47,95 @@ pub struct Lock<L: Opened> {
 pub struct Caller<L: Opened> {
     pub(crate) lock: Arc<Lock<L>>,
     pub(crate) receipts: Vec<Receipt>,
-    pub(crate) share: Share<L>,
+    pub(crate) pass: Pass,
 }
 
 impl<L: Opened> Model for Caller<L> {
-    ghost use Rattle.std.specs.Prelude.{◌≡◌, List, vec_len};
+    ghost use Rattle.std.specs.Prelude.{◌≡◌, List};
     ghost use Rattle.am_shared.specs.declared.caller.Receipt.{Receipt};
+    ghost use Rattle.am_shared.specs.Calls.{calls_of};
+    ghost use Rattle.am_shared.specs.Matching.{Rise};
+    ghost use Rattle.am_shared.specs.Passes.{CallsOn, view_of};
 
     ghost Value = { List Receipt };
 
     ghost view = { λ c. c.receipts.items };
 
-    ghost invariant = { λ c. (c.share.parts ≡ 1) × (c.share.amount ≡ vec_len c.receipts) };
+    ghost invariant = { λ c. CallsOn L.logbook c.pass
+        × ((view_of c.pass).mine ≡ calls_of c.receipts.items) × Rise 0 c.receipts.items };
 }
 
-/// Shares the initial world of a master map, with the maps of its lines in their order, among so
-/// many callers. The ledger has a part for each of them.
+/// The passes of so many callers of a history in which nothing is.
+fn admit_all(
+    alloc: Global,
+    history: &History,
+    keeping: &mut Pass,
+    callers: u32,
+) -> Result<Vec<Pass>, AllocError>
+    requires keeper { KeepsHistory history.now.shared.table_id keeping.old
+        × (view_of keeping.old ≡ keeper 0 []) }
+    ensures len { IfOk result (λ made. vec_len made ≡ callers) }
+    ensures keeper { OnOk result (KeepsHistory history.now.shared.table_id keeping.new
+        × (view_of keeping.new ≡ keeper callers [])) }
+    ensures each { IfOk result (λ made. All (λ pass. CallsOn history.now.shared.table_id pass
+        × (view_of pass ≡ caller_with [] [])) made.items) }
+{
+    let mut made = Vec::with_capacity(alloc, callers as usize)?;
+    for _made in 0..callers {
+        made.push_reserved(admit(history, keeping));
+    }
+    Ok(made)
+}
+
+/// Shares the initial world of an opening among so many callers, whose events will stand in the
+/// logbook.
 pub fn share<L: Opened>(
     alloc: Global,
-    blank: Blank,
-    limits: Limits,
-    master: Master,
-    maps: Vec<Map>,
+    logbook: Logbook,
+    opening: Opening,
     put: PutEnd,
     callers: u32,
 ) -> Result<Vec<Caller<L>>, AllocError>
-    requires blank { (blank.name ≡ L.name) × (blank.parts ≡ L.parts) }
-    requires callers { (blank.parts ≡ callers) × (0 < callers) }
-    requires limits { IsInRange limits }
-    requires maps { length maps.items ≡ length master }
-    requires opening { L.opening ≡ record {
-      limits = limits;
-      master = master;
-      maps = maps.items;
-    } }
-    requires put { put.sent ≡ [] }
+    requires logbook { L.logbook ≡ logbook }
+    requires callers { (L.callers ≡ callers) × (0 < callers) }
+    requires opening { L.opening ≡ opening_of opening }
+    requires put { (put.sent ≡ []) × (L.pipe ≡ put.pipe) × (L.takers ≡ put.takers) × (L.room ≡ put.room) }
     ensures len { IfOk result (λ made. vec_len made ≡ callers) }
     ensures each { IfOk result (λ made. All (λ caller. caller ≡ []) made.items) }
 {
-    let (book, mut all) = blank.open::<L>();
-    let shared = Shared::new(alloc, limits, master, maps, put)?;
+    let Logbook {
+        history,
+        mut keeping,
+    } = logbook;
+    let shared = Shared::new(alloc, opening, put)?;
+    let passes = admit_all(alloc, &history, &mut keeping, callers)?;
     let lock = Arc::new(
         alloc,
         Lock {
-            desk: Mutex::new(Desk {
-                shared,
-                book,
-                given_up: false,
-            }),
-            moved: Condvar::new(),
+            desk: Mutex::new(Desk::new(shared, keeping)),
+            released: Condvar::new(),
+            history,
         },
     )?;
     let mut made = Vec::with_capacity(alloc, callers as usize)?;
-    for _made in 0..callers {
-        let share = all.split_off(1, 0);
+    for pass in passes {
         made.push_reserved(Caller {
             lock: Arc::try_clone(&lock)?,
             receipts: Vec::new(alloc),
-            share,
+            pass,
         });
     }
     Ok(made)
 }
 
-impl<L: Opened> Desk<L> {
-    /// Who holds all parts of the ledger has as many receipts as the history has entries.
-    pub fn audit(&mut self, all: &mut Share<L>)
-        requires { all.old.parts ≡ L.parts }
-        ensures count { length self.new.shared.history ≡ all.old.amount }
-        ensures same { self.new.shared ≡ self.old.shared }
-        ensures given_up { self.new.given_up ≡ self.old.given_up }
-    {
-        self.book.audit(all);
-    }
-
-    /// Applies an event, and counts it, unless memory ran out.
-    fn apply<R: Wait>(
-        &mut self,
-        rt: &R,
-        alloc: Global,
-        event: Event,
-        mine: &mut Share<L>,
-    ) -> (u64, Answer)
-        requires { 0 < mine.old.parts }
-        ensures parts { mine.new.parts ≡ mine.old.parts }
-        ensures none { result.0 ≡ 0 → mine.new.amount ≡ mine.old.amount }
-        ensures one { 0 < result.0 → mine.new.amount ≡ mine.old.amount + 1 }
-    {
-        let Desk { shared, book, .. } = self;
-        let (position, answer) = shared.apply(rt, alloc, event);
-        if position > 0 {
-            book.add(mine, 1);
-        }
-        (position, answer)
-    }
-}
-
-impl<L: Opened> Desk<L> {
-    /// Whether the walker has a wait that isn't acknowledged, and nobody has given up.
-    fn has_to_wait(&self, walker: WalkerId) -> bool
-        ensures { result ≡ if self.now.given_up then false
-            else still_waits (wait_of self.now.shared.world.kernel.waits.waits walker) }
-    {
-        if self.given_up {
-            return false;
-        }
-        self.shared.world().is_waiting(walker)
-    }
-
-    /// Nobody waits for a release from now on.
-    fn give_up(&mut self)
-        ensures given_up { self.new.given_up ≡ true }
-        ensures shared { self.new.shared ≡ self.old.shared }
-    {
-        self.given_up = true;
-    }
-}
-
 impl<L: Opened> Lock<L> {
-    /// Takes the lock once the walker has no wait that isn't acknowledged, or a caller has given
-    /// up.
+    /// Takes the lock once the walker has no wait that isn't acknowledged.
     fn released<R: Wait>(&self, rt: &R, walker: WalkerId) -> MutexGuard<'_, Desk<L>>
-        ensures { (mutex_guard_value result).given_up ≡ false →
-            still_waits (wait_of (mutex_guard_value result).shared.world.kernel.waits.waits walker)
-            ≡ false }
+        ensures { is_held_up walker (mutex_guard_value result) ≡ false }
     {
         let desk = self.desk.lock(rt);
-        self.moved
-            .wait_while(rt, desk, |desk| desk.has_to_wait(walker))
+        self.released
+            .wait_while(rt, desk, |desk| desk.is_held_up(walker))
     }
 }
 
@@ -193,84 +147,108 @@ impl<L: Opened> Caller<L> {
         self.receipts.as_slice()
     }
 
-    /// Makes an event, and keeps its receipt. Room and copy are made before the lock is taken.
-    fn make<R: Wait>(&mut self, rt: &R, alloc: Global, event: Event) -> Result<(), AllocError>
-        ensures ok { OnOk result ((position : ℕ) × (answer : _) × (self.new
-            ≡ self.old ++ record { position = position; event = event; answer = answer } ∷ [])) }
-        ensures err { OnErr result (self.new ≡ self.old) }
+    /// The receipt of the last event that this caller made.
+    pub fn receipt(&self) -> Option<&Receipt>
+        ensures { option_copied result ≡ slice_get self.now (length self.now - 1) }
     {
-        self.receipts.reserve(1)?;
-        let kept = event.copy(alloc)?;
-        let (position, answer) = self
-            .lock
-            .desk
-            .lock(rt)
-            .apply(rt, alloc, event, &mut self.share);
-        if position == 0 {
-            return Err(AllocError);
+        self.receipts().last()
+    }
+
+    /// Makes an event, or takes what was kept ahead for it, and keeps its receipt. Room and copy are
+    /// made before the lock is taken, and those who wait are woken only where one was released.
+    fn make<R: Wait>(
+        &mut self,
+        rt: &R,
+        alloc: Global,
+        event: Event,
+        is_ahead: bool,
+    ) -> Result<u64, Uncalled>
+        ensures ok { IfOk result (λ position. Receives L.opening self.old self.new event position) }
+        ensures err { IfErr result (λ back. (back.event ≡ event) × (self.new ≡ self.old)) }
+    {
+        // A receipt more than this is kept ahead.
+        let receipts = if is_ahead { 1 } else { 2 };
+        if self.receipts.reserve(receipts).is_err() {
+            return Err(Uncalled { event });
         }
-        self.lock.moved.notify_all();
+        let Ok(kept) = event.copy(alloc) else {
+            return Err(Uncalled { event });
+        };
+        let Made {
+            position,
+            answer,
+            releases,
+        } = self.lock.desk.lock(rt).apply(
+            rt,
+            alloc,
+            event,
+            is_ahead,
+            &self.lock.history,
+            &mut self.pass,
+        )?;
+        if releases {
+            self.lock.released.notify_all();
+        }
         self.receipts.push_reserved(Receipt {
             position,
             event: kept,
             answer,
         });
-        Ok(())
+        Ok(position)
     }
 
     /// Lends what lies under the lock, while the lock is held.
-    pub fn look<T, F: FnOnce(&Shared) -> T, R: Wait>(&self, rt: &R, f: F) -> T
+    pub fn look<T, F: FnOnce(&Shared) -> T, R: Wait>(&mut self, rt: &R, f: F) -> T
         requires { F.IsAlwaysCallable f }
-        ensures { (s : Sharing) × IsSharedFrom L.opening s × FnOnceReturnsAt F.FnOnce f s result }
+        ensures receipts { self.new ≡ self.old }
+        ensures lent { (s : Sharing) × IsSharedFrom L.opening s × AllAgree s.history self.old
+            × FnOnceReturnsAt F.FnOnce f s result }
     {
-        let desk = self.lock.desk.lock(rt);
-        let shared = &desk.shared;
-        // What a shared world keeps is known where its history is read.
-        let _history = shared.history();
-        f(shared)
+        self.lock
+            .desk
+            .lock(rt)
+            .lend(&self.lock.history, &mut self.pass, f)
     }
 
-    /// Returns once a walker has no wait that isn't acknowledged, or a caller has given up.
-    pub fn wait_release<R: Wait>(&self, rt: &R, walker: WalkerId) {
-        let _desk = self.lock.released(rt, walker);
-    }
-
-    /// Tells all callers that this one won't make the events any more that they may wait for:
-    /// nobody waits for a release from now on.
-    pub fn give_up<R: Wait>(&self, rt: &R) {
-        self.lock.desk.lock(rt).give_up();
-        self.lock.moved.notify_all();
+    /// Waits until a walker has no wait that isn't acknowledged, and lends what lies under the lock
+    /// then.
+    pub fn wait_release<T, F: FnOnce(&Shared) -> T, R: Wait>(
+        &mut self,
+        rt: &R,
+        walker: WalkerId,
+        f: F,
+    ) -> T
+        requires { F.IsAlwaysCallable f }
+        ensures receipts { self.new ≡ self.old }
+        ensures lent { (s : Sharing) × IsSharedFrom L.opening s × AllAgree s.history self.old
+            × (has_to_wait walker s ≡ false) × FnOnceReturnsAt F.FnOnce f s result }
+    {
+        let mut desk = self.lock.released(rt, walker);
+        desk.lend(&self.lock.history, &mut self.pass, f)
     }
 }
 
 impl<L: Opened> Caller<L> {
-    ghost use Rattle.std.specs.Prelude.{⊤, MatchResult};
-    ghost use Rattle.std.specs.Borrow.{sem, follows_so};
-    ghost use mathlib.Core.Option.{none};
-    ghost use Rattle.am_shared.specs.contracts.caller.Caller.{the_row};
+    ghost use Rattle.am_machine.specs.declared.event.Event.TheVariants.{AdminCatatonic};
 
-    /// Makes an event, as one step under the lock, and gives its receipt, which is kept behind
-    /// those of the earlier events. Out of memory, nothing was done.
-    pub fn call<R: Wait>(
-        &mut self,
-        rt: &R,
-        alloc: Global,
-        event: Event,
-    ) -> Result<&Receipt, AllocError>
-        ensures* receipts { sem 𝓛 (follows_so
-            (the_row L.row (record { opening = L.opening })
-            (record { name = L.name; parts = L.parts }))
-            (the_row L.row (record { opening = L.opening })
-            (record { name = L.name; parts = L.parts }))
-            self.entry.ghost_name none (λ _ _. ⊤)
-            (λ n. MatchResult result (λ r. n ≡ self.old ++ r.now ∷ []) (λ _. n ≡ self.old))) }
-        ensures event { IfOk result (λ r. r.now.event ≡ event) }
+    /// Makes an event, as one step under the lock, and keeps its receipt after those of the earlier
+    /// events. Tells its position in the history, from 1. Out of memory, nothing was done, and the
+    /// event comes back.
+    pub fn call<R: Wait>(&mut self, rt: &R, alloc: Global, event: Event) -> Result<u64, Uncalled>
+        ensures ok { IfOk result (λ position. Receives L.opening self.old self.new event position) }
+        ensures err { IfErr result (λ back. (back.event ≡ event) × (self.new ≡ self.old)) }
     {
-        self.make(rt, alloc, event)?;
-        let receipts: &[Receipt] = self.receipts.as_slice();
-        let Some(last) = receipts.last() else {
-            return Err(AllocError);
-        };
-        Ok(last)
+        self.make(rt, alloc, event, false)
+    }
+
+    /// Gives up where memory is short: a file system becomes catatonic, as by its administrator, so
+    /// that nobody waits there for what isn't done. The event has room that was kept ahead for it.
+    pub fn give_up<R: Wait>(&mut self, rt: &R, alloc: Global, fs: FsId) -> Result<u64, Uncalled>
+        ensures ok { IfOk result
+            (λ position. Receives L.opening self.old self.new (AdminCatatonic fs) position) }
+        ensures err { IfErr result
+            (λ back. (back.event ≡ AdminCatatonic fs) × (self.new ≡ self.old)) }
+    {
+        self.make(rt, alloc, Event::AdminCatatonic { fs }, true)
     }
 }

@@ -3,13 +3,22 @@
 #![tactic(auto)]
 
 mod caller;
+mod chronicle;
+mod desk;
 mod gathering;
+pub mod laws;
+mod logbook;
 mod matching;
 mod notes;
 mod opened;
+mod opening;
+mod parts;
 mod shared;
 
 pub use caller::{Caller, Receipt, share};
-pub use gathering::gather;
+pub use gathering::{Gathered, gather};
+pub use logbook::Logbook;
 pub use opened::Opened;
-pub use shared::Shared;
+pub use opening::Opening;
+pub use parts::{Applied, Parts};
+pub use shared::{Shared, Uncalled};

@@ -1,8 +1,9 @@
 //! The notes of what the kernel queued, on their way into the pipe.
 
 ghost use Rattle.std.specs.Prelude.{◌≡◌, ◌≤◌, ◌+◌, ◌++◌, length, drop};
+ghost use Rattle.std.specs.List.{list_any};
 ghost use Rattle.std.specs.VecDeque.{deque_len, deque_capacity};
-ghost use Rattle.am_shared.specs.Notes.{note as note_of, note_at, notes_of, IsFlushed};
+ghost use Rattle.am_shared.specs.Notes.{note as note_of, note_at, notes_of, IsFlushedSince, is_released};
 
 use am_names::{Attach, Token};
 use am_pipe::{Note, PutEnd};
@@ -64,7 +65,9 @@ pub fn collect(unsent: &mut VecDeque<Note>, trace: &[Obs], from: usize)
 /// Puts the notes that wait, in order, until the pipe is full.
 pub fn flush<R: Wait>(rt: &R, put: &mut PutEnd, unsent: &mut VecDeque<Note>)
     ensures notes { put.new.sent ++ unsent.new.items ≡ put.old.sent ++ unsent.old.items }
-    ensures flushed { IsFlushed put.new unsent.new.items }
+    ensures flushed { IsFlushedSince put.old.looks put.new unsent.new.items }
+    ensures put { (put.new.pipe ≡ put.old.pipe) × (put.new.takers ≡ put.old.takers)
+        × (put.new.room ≡ put.old.room) }
 {
     let count = unsent.len();
     for _i in 0..count {
@@ -76,4 +79,29 @@ pub fn flush<R: Wait>(rt: &R, put: &mut PutEnd, unsent: &mut VecDeque<Note>)
         }
         unsent.pop_front();
     }
+}
+
+/// Whether a walker is released.
+fn is_released(obs: &Obs) -> bool
+    ensures { result ≡ is_released obs.now }
+{
+    matches!(obs, Obs::Released { .. })
+}
+
+/// Whether somebody is released in what was seen.
+fn is_any_released(seen: &[Obs]) -> bool
+    ensures { result ≡ list_any is_released seen.now }
+{
+    seen.iter().any(is_released)
+}
+
+/// Whether somebody is released in a trace, from a place on.
+pub fn releases(trace: &[Obs], from: usize) -> bool
+    ensures { result ≡ list_any is_released (drop from trace.now) }
+{
+    if trace.len() < from {
+        return false;
+    }
+    let (_, seen) = trace.split_at(from);
+    is_any_released(seen)
 }

@@ -1,84 +1,78 @@
 //! What lies under the lock.
 
-ghost use Rattle.std.specs.Prelude.{◌≡◌, ◌<◌, [], length, IfOk};
-ghost use Rattle.am_names.specs.declared.errno.Errno.TheVariants.{NoMemory};
-ghost use Rattle.am_names.specs.{IsInRange};
-ghost use Rattle.am_machine.specs.declared.answer.Answer.TheVariants.{Refused};
+ghost use Rattle.std.specs.Prelude.{◌≡◌, [], length, IfOk, IfErr, OnOk};
 ghost use Rattle.am_machine.specs.{initial_state_of};
 ghost use Rattle.am_world.specs.Capacity.{state_of};
+ghost use Rattle.am_shared.specs.Notes.{IsFlushedSince};
 ghost use Rattle.am_shared.specs.Sharing.{IsShared, Applies};
+ghost use Rattle.am_shared.specs.Opening.{opening_of};
+ghost use Rattle.am_shared.specs.Parts.{sharing_of};
 
-use crate::notes::{collect, flush};
-use am_machine::{Answer, Entry, Event};
-use am_map::Map;
-use am_master::Master;
-use am_names::{Errno, Limits};
-use am_pipe::{Note, PutEnd};
+use crate::opening::Opening;
+use crate::parts::{Applied, Parts, make, reserve};
+use am_machine::{Entry, Event};
+use am_pipe::PutEnd;
+use am_state::Obs;
 use am_world::World;
 use std::alloc::{AllocError, Global};
 use std::collections::VecDeque;
 use std::marker::Model;
 use std::sync::Wait;
 
+/// For so many observations there is room ahead, beside twice as many as were seen.
+const AHEAD: usize = 1_024;
+
 /// A world, the history of its events, the put end of the pipe, and the notes that wait for room in
-/// the pipe.
+/// the pipe. Room is kept ahead for an event that is to be made where memory is short.
 #[derive(Drop)]
 pub struct Shared {
-    world: World,
-    history: Vec<Entry>,
-    put: PutEnd,
-    unsent: VecDeque<Note>,
+    parts: Parts,
+    ballast: Vec<Obs>,
 }
 
 impl Model for Shared {
-    ghost use Rattle.std.specs.Prelude.{◌≡◌, ◌++◌};
-    ghost use Rattle.am_machine.specs.{IsLegal};
-    ghost use Rattle.am_world.specs.Capacity.{state_of};
-    ghost use Rattle.am_shared.specs.Notes.{notes_of, IsFlushed};
-    ghost use Rattle.am_shared.specs.Sharing.{Sharing};
+    ghost use Rattle.am_shared.specs.Parts.{sharing_of};
+    ghost use Rattle.am_shared.specs.Sharing.{IsKept, Sharing};
 
     ghost Value = { Sharing };
 
-    ghost view = { λ s. record {
-      world = s.world;
-      history = s.history.items;
-      put = s.put;
-      unsent = s.unsent.items;
-    } };
+    ghost view = { λ s. sharing_of s.parts };
 
-    ghost invariant = { λ s. IsLegal s.history.items (state_of s.world)
-        × (s.put.sent ++ s.unsent.items ≡ notes_of s.world.trace)
-        × IsFlushed s.put s.unsent.items };
+    ghost invariant = { λ s. IsKept (sharing_of s.parts) };
+}
+
+/// The event was not made, as memory ran out. It comes back.
+#[derive(Drop)]
+pub struct Uncalled {
+    pub event: Event,
 }
 
 impl Shared {
-    /// The initial world of a master map, with the maps of its lines in their order. Nothing has
-    /// happened to it.
-    pub fn new(
-        alloc: Global,
-        limits: Limits,
-        master: Master,
-        maps: Vec<Map>,
-        put: PutEnd,
-    ) -> Result<Shared, AllocError>
-        requires limits { IsInRange limits }
-        requires maps { length maps.items ≡ length master }
+    /// The initial world of an opening, to which nothing has happened.
+    pub fn new(alloc: Global, opening: Opening, put: PutEnd) -> Result<Shared, AllocError>
         requires put { put.sent ≡ [] }
         ensures history { IfOk result (λ s. s.history ≡ []) }
-        ensures world { IfOk result (λ s. state_of s.world ≡ initial_state_of (record {
-          limits = limits;
-          master = master;
-          maps = maps.items;
-        })) }
+        ensures world { IfOk result
+            (λ s. state_of s.world ≡ initial_state_of (opening_of opening)) }
+        ensures put { IfOk result (λ s. s.put ≡ put) }
     {
+        let Opening {
+            limits,
+            master,
+            maps,
+        } = opening;
         let Ok(world) = World::new(alloc, limits, master, maps) else {
             return Err(AllocError);
         };
+        let ballast = Vec::with_capacity(alloc, AHEAD * 2)?;
         Ok(Shared {
-            world,
-            history: Vec::new(alloc),
-            put,
-            unsent: VecDeque::new(alloc),
+            parts: Parts {
+                world,
+                history: Vec::new(alloc),
+                put,
+                unsent: VecDeque::new(alloc),
+            },
+            ballast,
         })
     }
 
@@ -86,7 +80,7 @@ impl Shared {
     pub fn world(&self) -> &World
         ensures { result.now ≡ self.now.world }
     {
-        &self.world
+        &self.parts.world
     }
 
     /// The events so far, each with its answer.
@@ -95,28 +89,97 @@ impl Shared {
         ensures shared { IsShared self.now }
     {
         // What a world keeps is known where its trace is read.
-        let _ = self.world.trace();
-        self.history.as_slice()
+        let _ = self.parts.world.trace();
+        self.parts.history.as_slice()
     }
 
-    /// Applies an event, and tells its position in the history, from 1, and its answer. At position
-    /// 0 nothing was done, as memory ran out.
-    pub fn apply<R: Wait>(&mut self, rt: &R, alloc: Global, event: Event) -> (u64, Answer)
-        ensures none { result.0 ≡ 0 → (result.1 ≡ Refused NoMemory) × (self.new ≡ self.old) }
-        ensures one { 0 < result.0 → Applies self.old self.new event result.0 result.1 }
+    /// How many notes wait for room in the pipe.
+    pub fn unsent(&self) -> usize
+        ensures { result ≡ length self.now.unsent }
     {
-        if self.history.reserve(1).is_err() || self.unsent.reserve(1).is_err() {
-            let errno = Errno::NoMemory;
-            return (0, Answer::Refused { errno });
+        self.parts.unsent.len()
+    }
+
+    /// The world, its history, the put end of the pipe, and the notes that wait for room in it.
+    pub fn into_parts(self) -> Parts
+        ensures parts { sharing_of result ≡ self }
+        ensures shared { IsShared self }
+    {
+        let _ = self.parts.world.trace();
+        let Shared { parts, ballast: _ } = self;
+        parts
+    }
+
+    /// Room for the event after the next, and for what may be seen of it.
+    fn keep_ahead(&mut self, alloc: Global) -> Result<(), AllocError>
+        ensures { self.new ≡ self.old }
+    {
+        let seen = self.parts.world.trace().len();
+        let wanted = seen.saturating_mul(2).saturating_add(AHEAD);
+        if self.ballast.capacity() < wanted {
+            // Until there is more, what was kept stays.
+            self.ballast = Vec::with_capacity(alloc, wanted.saturating_mul(2))?;
         }
-        let seen = self.world.trace().len();
-        let (kept, answer) = self.world.step_pair(alloc, &event);
-        self.history.push_reserved(Entry {
-            event,
-            answer: kept,
-        });
-        collect(&mut self.unsent, self.world.trace(), seen);
-        flush(rt, &mut self.put, &mut self.unsent);
-        (self.history.len() as u64, answer)
+        Ok(())
+    }
+
+    /// Applies an event, by what is kept ahead or with as much kept ahead again.
+    pub(crate) fn apply_with<R: Wait>(
+        &mut self,
+        rt: &R,
+        alloc: Global,
+        event: Event,
+        is_ahead: bool,
+    ) -> Result<Applied, Uncalled>
+        ensures none { IfErr result (λ back. (back.event ≡ event) × (self.new ≡ self.old)) }
+        ensures one { IfOk result
+            (λ made. Applies self.old self.new event made.position made.answer) }
+        ensures flushed { OnOk result
+            (IsFlushedSince self.old.put.looks self.new.put self.new.unsent) }
+    {
+        if is_ahead {
+            self.ballast = Vec::new(alloc);
+        } else if self.keep_ahead(alloc).is_err() {
+            return Err(Uncalled { event });
+        }
+        let events = if is_ahead { 1 } else { 2 };
+        if reserve(&mut self.parts, events).is_err() {
+            return Err(Uncalled { event });
+        }
+        Ok(make(rt, alloc, &mut self.parts, event))
+    }
+
+    /// Applies an event, and tells its position in the history, from 1, and its answer. Where there
+    /// is no memory for the history, or for what is kept ahead, nothing was done.
+    pub fn apply<R: Wait>(
+        &mut self,
+        rt: &R,
+        alloc: Global,
+        event: Event,
+    ) -> Result<Applied, Uncalled>
+        ensures none { IfErr result (λ back. (back.event ≡ event) × (self.new ≡ self.old)) }
+        ensures one { IfOk result
+            (λ made. Applies self.old self.new event made.position made.answer) }
+        ensures flushed { OnOk result
+            (IsFlushedSince self.old.put.looks self.new.put self.new.unsent) }
+    {
+        self.apply_with(rt, alloc, event, false)
+    }
+
+    /// Applies an event by the room that was kept ahead: one that wants no more is made even where
+    /// memory is short. Room is kept ahead again by the next `apply`.
+    pub fn apply_ahead<R: Wait>(
+        &mut self,
+        rt: &R,
+        alloc: Global,
+        event: Event,
+    ) -> Result<Applied, Uncalled>
+        ensures none { IfErr result (λ back. (back.event ≡ event) × (self.new ≡ self.old)) }
+        ensures one { IfOk result
+            (λ made. Applies self.old self.new event made.position made.answer) }
+        ensures flushed { OnOk result
+            (IsFlushedSince self.old.put.looks self.new.put self.new.unsent) }
+    {
+        self.apply_with(rt, alloc, event, true)
     }
 }

@@ -5,6 +5,8 @@ mod crowds;
 mod deaths;
 mod ends;
 mod events;
+mod packets;
+mod pipes;
 mod releases;
 mod rows;
 mod runner;

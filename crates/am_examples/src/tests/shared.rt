@@ -1,19 +1,17 @@
 //! For the author of tests with threads: callers of a shared world, and its history.
 
-ghost use Rattle.std.specs.Prelude.{◌≡◌, [], length};
-ghost use Rattle.am_names.specs.{IsInRange};
+ghost use Rattle.std.specs.Prelude.{◌≡◌, []};
+ghost use Rattle.am_shared.specs.{opening_of};
 
-use am_map::Map;
 use am_master::Master;
 use am_names::{Limits, Seconds};
 use am_pipe::{PutEnd, pipe};
-use am_shared::{Caller, Opened, Shared, gather, share};
+use am_shared::{Caller, Logbook, Opened, Opening, Shared, gather, share};
 use am_world::{Answer, Event};
 use std::alloc::{AllocError, Global};
 use std::marker::Brand;
 use std::process::Abort;
 use std::sync::Wait;
-use std::sync::ledger::Blank;
 use std::test::Fail;
 
 const LIMITS: Limits = Limits {
@@ -34,47 +32,42 @@ fn is_death(shared: &Shared) -> bool {
 /// The first caller makes an event. Tells its position in the history.
 fn dies<L: Opened, R: Wait>(rt: &R, alloc: Global, callers: &mut [Caller<L>]) -> Option<u64> {
     let caller = callers.first_mut()?;
-    let receipt = caller.call(rt, alloc, Event::Die).ok()?;
-    Some(receipt.position)
+    caller.call(rt, alloc, Event::Die).ok()
 }
 
 /// Shares a world between two callers, each of which may go to a thread of its own.
 fn plays<L: Opened, R: Wait + Abort>(
     rt: &R,
     alloc: Global,
-    blank: Blank,
-    limits: Limits,
-    master: Master,
-    maps: Vec<Map>,
+    logbook: Logbook,
+    opening: Opening,
     put: PutEnd,
 ) -> Result<(), AllocError>
-    requires ledger { (blank.name ≡ L.name) × (blank.parts ≡ L.parts) × (blank.parts ≡ 2) }
-    requires limits { IsInRange limits }
-    requires maps { length maps.items ≡ length master }
-    requires opening { L.opening ≡ record { limits = limits; master = master; maps = maps.items } }
-    requires put { put.sent ≡ [] }
+    requires logbook { (L.logbook ≡ logbook) × (L.callers ≡ 2) }
+    requires opening { L.opening ≡ opening_of opening }
+    requires put { (put.sent ≡ []) × (L.pipe ≡ put.pipe) × (L.takers ≡ put.takers) × (L.room ≡ put.room) }
 {
-    let mut callers: Vec<Caller<L>> = share(alloc, blank, limits, master, maps, put, 2)?;
+    let mut callers: Vec<Caller<L>> = share(alloc, logbook, opening, put, 2)?;
     let position = dies(rt, alloc, callers.as_mut_slice());
     assert!(rt; position == Some(1), "the first event");
-    let (count, test, death) = gather(rt, callers, |shared, count, test| {
-        (count, test, is_death(shared))
-    });
-    assert!(rt; count == 1 && death, "the history has the event");
-    assert!(rt; test, "each event of the history has one receipt");
+    let gathered = gather(rt, callers);
+    assert!(rt; gathered.count == 1, "one event");
+    assert!(rt; is_death(&gathered.shared), "the history has the event");
+    assert!(rt;
+        gathered.is_matched,
+        "each event of the history has one receipt"
+    );
     Ok(())
 }
 
 #[test]
 fn two_callers_share_a_world(rt: HostRuntime) -> Result<(), Fail> {
-    let limits = LIMITS;
-    let master = Master::read(rt.alloc(), b"")?;
-    let maps = Vec::new(rt.alloc());
-    if !limits.is_in_range() || maps.len() != master.entries().len() {
-        return Err(Fail::new("an empty master map has no maps"));
-    }
-    let (put, _takers) = pipe(rt.alloc(), 4, 1)?;
-    let blank = Blank::new(2);
-    plays::<Brand, HostRuntime>(&rt, rt.alloc(), blank, limits, master, maps, put)?;
+    let alloc = rt.alloc();
+    let master = Master::read(alloc, b"")?;
+    let opening = Opening::new(LIMITS, master, Vec::new(alloc));
+    let opening = opening.ok_or("an empty master map has no maps")?;
+    let (put, _takers) = pipe(alloc, 4, 1)?;
+    let logbook = Logbook::new(alloc)?;
+    plays::<Brand, HostRuntime>(&rt, alloc, logbook, opening, put)?;
     Ok(())
 }

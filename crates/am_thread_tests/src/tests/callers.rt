@@ -1,19 +1,18 @@
 //! The events of one worked example, by callers in turn. Run with each allocation refused in turn
 //! too: a call that finds no memory keeps no receipt, and goes on when it is made again.
 
+ghost use Rattle.am_shared.specs.{opening_of};
 ghost use Rattle.std.specs.Prelude.{◌≡◌, ◌<◌, []};
 
 use crate::tests::worlds::{call, is_line, world_and_ends};
 use am_names::Errno;
 use am_pipe::{Note, PutEnd, TakeEnd, pipe};
-use am_runner::Opening;
-use am_shared::{Caller, Opened, Receipt, Shared, gather, share};
+use am_shared::{Caller, Logbook, Opened, Opening, Receipt, Shared, gather, share};
 use am_world::Answer;
 use std::alloc::{AllocError, Global};
 use std::marker::Brand;
 use std::process::Abort;
 use std::sync::Wait;
-use std::sync::ledger::Blank;
 use std::test::*;
 
 const HOMES: &[u8] = b"home -fstype=nfs srv:/home\nwork srv:/work";
@@ -161,28 +160,20 @@ fn is_packet(found: Option<(u64, Note)>) -> bool {
 fn played<L: Opened, R: Wait + Abort>(
     rt: &R,
     alloc: Global,
-    blank: Blank,
+    logbook: Logbook,
     begun: Opening,
     put: PutEnd,
     callers: u32,
 ) -> Result<(), AllocError>
-    requires blank { (blank.name ≡ L.name) × (blank.parts ≡ L.parts) }
-    requires callers { (blank.parts ≡ callers) × (0 < callers) }
-    requires opening { L.opening ≡ record {
-      limits = begun.limits;
-      master = begun.master;
-      maps = begun.maps.items;
-    } }
-    requires put { put.sent ≡ [] }
+    requires logbook { L.logbook ≡ logbook }
+    requires callers { (L.callers ≡ callers) × (0 < callers) }
+    requires opening { L.opening ≡ opening_of begun }
+    requires put { (put.sent ≡ []) × (L.pipe ≡ put.pipe) × (L.takers ≡ put.takers) × (L.room ≡ put.room) }
 {
-    let Opening {
-        limits,
-        master,
-        maps,
-    } = begun;
-    let mut made = share::<L>(alloc, blank, limits, master, maps, put, callers)?;
+    let mut made = share::<L>(alloc, logbook, begun, put, callers)?;
     let last = plays(rt, alloc, made.as_mut_slice());
-    let end = gather(rt, made, |shared, count, test| end_of(shared, count, test));
+    let gathered = gather(rt, made);
+    let end = end_of(&gathered.shared, gathered.count, gathered.is_matched);
     assert!(rt; end.count == last, "the number of calls");
     assert!(rt; end.calls == SERVED.len(), "each call was made once");
     assert!(rt; end.test, "each call has its receipt");
@@ -198,8 +189,8 @@ fn plays_once<R: Wait + Abort>(rt: &R, alloc: Global, callers: u32) -> Result<()
 {
     let begun = world_and_ends(alloc, HOMES)?;
     let (put, mut takers) = pipe(alloc, 4, 1)?;
-    let blank = Blank::new(callers as u64);
-    played::<Brand, R>(rt, alloc, blank, begun, put, callers)?;
+    let logbook = Logbook::new(alloc)?;
+    played::<Brand, R>(rt, alloc, logbook, begun, put, callers)?;
     let taken = takes(rt, takers.as_mut_slice());
     assert!(rt; is_packet(taken), "the packet of token 1");
     let more = takes(rt, takers.as_mut_slice());

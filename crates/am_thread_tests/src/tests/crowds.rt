@@ -1,5 +1,6 @@
 //! Threads that walk, serve, mount and expire, all at once. The history is one of a single thread.
 
+ghost use Rattle.am_shared.specs.{opening_of};
 ghost use Rattle.std.specs.Prelude.{◌≡◌, ◌<◌, []};
 
 use crate::tests::sizes::number;
@@ -7,8 +8,7 @@ use crate::tests::worlds::{call, world_and_ends, world_of};
 use am_machine::Entry;
 use am_names::{JobId, Token, WalkerId};
 use am_pipe::{PutEnd, pipe};
-use am_runner::Opening;
-use am_shared::{Caller, Opened, Shared, gather, share};
+use am_shared::{Caller, Logbook, Opened, Opening, Shared, gather, share};
 use am_state::Obs;
 use am_world::laws::trace_holds;
 use am_world::{Answer, Ran, World, run};
@@ -16,7 +16,6 @@ use std::alloc::{AllocError, Global};
 use std::marker::Brand;
 use std::process::Abort;
 use std::sync::Wait;
-use std::sync::ledger::Blank;
 use std::test::*;
 use std::thread;
 use std::thread::Threads;
@@ -25,12 +24,13 @@ use std::thread::Threads;
 const ANY: &[u8] = b"* srv:/any";
 
 /// How many threads make how many calls, each of them, and how much of the trace is judged then:
-/// the time for that grows faster than its length.
+/// the time for that grows faster than its length. The history is replayed, unless that is 0.
 #[derive(Clone, Copy)]
 struct Size {
     threads: u32,
     calls: u32,
     judged: u32,
+    replayed: u32,
 }
 
 /// What the gate makes: 100,000 calls. `bench/crowds.py` has more made.
@@ -38,6 +38,7 @@ const GATE: Size = Size {
     threads: 8,
     calls: 12_500,
     judged: 600,
+    replayed: 1,
 };
 
 fn all_calls(size: Size) -> u64 {
@@ -216,6 +217,9 @@ fn replay(alloc: Global, history: &[Entry]) -> Result<Ran, AllocError> {
 }
 
 fn is_replayed(alloc: Global, shared: &Shared, size: Size) -> Result<bool, AllocError> {
+    if size.replayed == 0 {
+        return Ok(true);
+    }
     let ran = replay(alloc, shared.history())?;
     let are_told = are_answers(shared.history(), ran.answers.as_slice());
     Ok(are_told && are_same_worlds(shared.world(), &ran.world, size))
@@ -259,26 +263,17 @@ fn attach<L: Opened, R: Wait>(rt: &R, alloc: Global, callers: &mut [Caller<L>]) 
 fn crowd<L: Opened + Send + Sync, R: Threads + Wait + Abort + Sync>(
     rt: &R,
     alloc: Global,
-    blank: Blank,
+    logbook: Logbook,
     begun: Opening,
     put: PutEnd,
     size: Size,
 ) -> Result<(), AllocError>
-    requires blank { (blank.name ≡ L.name) × (blank.parts ≡ L.parts) }
-    requires threads { (blank.parts ≡ size.threads) × (0 < size.threads) }
-    requires opening { L.opening ≡ record {
-      limits = begun.limits;
-      master = begun.master;
-      maps = begun.maps.items;
-    } }
-    requires put { put.sent ≡ [] }
+    requires logbook { L.logbook ≡ logbook }
+    requires threads { (L.callers ≡ size.threads) × (0 < size.threads) }
+    requires opening { L.opening ≡ opening_of begun }
+    requires put { (put.sent ≡ []) × (L.pipe ≡ put.pipe) × (L.takers ≡ put.takers) × (L.room ≡ put.room) }
 {
-    let Opening {
-        limits,
-        master,
-        maps,
-    } = begun;
-    let mut callers = share::<L>(alloc, blank, limits, master, maps, put, size.threads)?;
+    let mut callers = share::<L>(alloc, logbook, begun, put, size.threads)?;
     assert!(rt; attach(rt, alloc, callers.as_mut_slice()), "an autofs");
     thread::for_each_mut(
         rt,
@@ -286,10 +281,13 @@ fn crowd<L: Opened + Send + Sync, R: Threads + Wait + Abort + Sync>(
         size.threads as usize,
         &|index, caller| rounds(rt, alloc, size.calls, index, caller),
     );
-    let end = gather(
-        rt,
-        callers,
-        |shared, count, test| end_of(alloc, shared, size, count, test),
+    let gathered = gather(rt, callers);
+    let end = end_of(
+        alloc,
+        &gathered.shared,
+        size,
+        gathered.count,
+        gathered.is_matched,
     )?;
     assert_eq!(rt; end.count, all_calls(size));
     assert!(rt; end.test, "each call has its receipt");
@@ -303,6 +301,7 @@ fn size_of(rt: &HostRuntime) -> Size {
         threads: number(rt, "CROWD_THREADS", GATE.threads),
         calls: number(rt, "CROWD_CALLS", GATE.calls),
         judged: number(rt, "CROWD_JUDGED", GATE.judged),
+        replayed: number(rt, "CROWD_REPLAYED", GATE.replayed),
     }
 }
 
@@ -313,7 +312,7 @@ fn a_crowd(rt: HostRuntime) -> Result<(), Fail> {
     assert!(rt; size.threads > 0, "a thread at least");
     let begun = world_and_ends(alloc, ANY)?;
     let (put, _takers) = pipe(alloc, 64, 1)?;
-    let blank = Blank::new(size.threads as u64);
-    crowd::<Brand, HostRuntime>(&rt, alloc, blank, begun, put, size)?;
+    let logbook = Logbook::new(alloc)?;
+    crowd::<Brand, HostRuntime>(&rt, alloc, logbook, begun, put, size)?;
     Ok(())
 }

@@ -4,9 +4,8 @@
 use crate::tests::sizes::number;
 use crate::tests::worlds::world_and_failures;
 use am_machine::{Answer, Entry, Event};
-use am_map::Entry as MapEntry;
-use am_names::{Errno, FailNo, Seconds, Trigger};
-use am_runner::{Backend, Gate, Run, run_with};
+use am_names::{Errno, FailNo, Place, Seconds, Trigger};
+use am_runner::{Backend, Errand, Gate, Run, run_with};
 use am_shared::Shared;
 use am_world::laws::trace_holds;
 use std::alloc::{AllocError, Global};
@@ -52,7 +51,7 @@ struct FailsInTurn<'a> {
 }
 
 impl Backend for FailsInTurn<'_> {
-    fn mount(&mut self, _trigger: &Trigger, _entry: &MapEntry) -> Result<(), FailNo> {
+    fn mount(&mut self, _errand: &Errand<'_>) -> Result<(), FailNo> {
         match self.mounts.fetch_add(1, Ordering::SeqCst) % 4 {
             1 => Err(FailNo::EPERM),
             3 => Err(FailNo::ENOSPC),
@@ -60,7 +59,7 @@ impl Backend for FailsInTurn<'_> {
         }
     }
 
-    fn umount(&mut self, _trigger: &Trigger) -> Result<(), FailNo> {
+    fn umount(&mut self, _trigger: &Trigger, _path: &Place) -> Result<(), FailNo> {
         Ok(())
     }
 }

@@ -1,18 +1,17 @@
 //! A walker that waits in a thread of its own, until the daemon's thread has released it.
 
+ghost use Rattle.am_shared.specs.{opening_of};
 ghost use Rattle.std.specs.Prelude.{◌≡◌, []};
 
 use crate::tests::worlds::{call, is_line, world_and_ends};
-use am_names::WalkerId;
+use am_names::{FsId, WalkerId};
 use am_pipe::{PutEnd, pipe};
-use am_runner::Opening;
-use am_shared::{Caller, Opened, gather, share};
+use am_shared::{Caller, Logbook, Opened, Opening, Shared, gather, share};
 use std::alloc::{AllocError, Global};
 use std::marker::Brand;
 use std::process::Abort;
 use std::sync::Wait;
 use std::sync::atomic::{AtomicU32, Ordering};
-use std::sync::ledger::Blank;
 use std::test::*;
 use std::thread;
 use std::thread::Threads;
@@ -30,15 +29,23 @@ fn answers<L: Opened, R: Wait>(
     }
 }
 
-/// Once it is released, the walk goes on at once. Where nobody serves it any more, it isn't released.
+/// Once it is released, the walk goes on at once. Where the file system became catatonic meanwhile,
+/// it fails with ENOENT.
 fn walks<L: Opened, R: Wait>(
     rt: &R,
     alloc: Global,
     caller: &mut Caller<L>,
     is_served: bool,
 ) -> bool {
-    caller.wait_release(rt, WalkerId(7));
-    let wanted: &[u8] = if is_served { b"at 3 /\n" } else { b"err 11\n" };
+    let is_waiting = caller.wait_release(
+        rt,
+        WalkerId(7),
+        |shared: &Shared| shared.world().is_waiting(WalkerId(7)),
+    );
+    if is_waiting {
+        return false;
+    }
+    let wanted: &[u8] = if is_served { b"at 3 /\n" } else { b"fail 1\n" };
     answers(rt, alloc, caller, b"resume 7 101 room", wanted)
 }
 
@@ -60,8 +67,7 @@ fn serves_or_not<L: Opened, R: Wait>(
     if is_served {
         return serves(rt, alloc, caller);
     }
-    caller.give_up(rt);
-    true
+    caller.give_up(rt, alloc, FsId(2)).is_ok()
 }
 
 /// The first caller is the walker, and the second the daemon.
@@ -105,25 +111,16 @@ fn begins<L: Opened, R: Wait>(rt: &R, alloc: Global, callers: &mut [Caller<L>]) 
 fn released<L: Opened + Send + Sync, R: Threads + Wait + Abort + Sync>(
     rt: &R,
     alloc: Global,
-    blank: Blank,
+    logbook: Logbook,
     begun: Opening,
     put: PutEnd,
     is_served: bool,
 ) -> Result<(), AllocError>
-    requires blank { (blank.name ≡ L.name) × (blank.parts ≡ L.parts) × (blank.parts ≡ 2) }
-    requires opening { L.opening ≡ record {
-      limits = begun.limits;
-      master = begun.master;
-      maps = begun.maps.items;
-    } }
-    requires put { put.sent ≡ [] }
+    requires logbook { (L.logbook ≡ logbook) × (L.callers ≡ 2) }
+    requires opening { L.opening ≡ opening_of begun }
+    requires put { (put.sent ≡ []) × (L.pipe ≡ put.pipe) × (L.takers ≡ put.takers) × (L.room ≡ put.room) }
 {
-    let Opening {
-        limits,
-        master,
-        maps,
-    } = begun;
-    let mut callers = share::<L>(alloc, blank, limits, master, maps, put, 2)?;
+    let mut callers = share::<L>(alloc, logbook, begun, put, 2)?;
     assert!(rt;
         begins(rt, alloc, callers.as_mut_slice()),
         "the walker waits"
@@ -136,9 +133,9 @@ fn released<L: Opened + Send + Sync, R: Threads + Wait + Abort + Sync>(
         &|index, caller| takes_part(rt, alloc, &done, index, caller, is_served),
     );
     assert_eq!(rt; done.load(Ordering::SeqCst), 2);
-    let (count, test) = gather(rt, callers, |_shared, count, test| (count, test));
-    let calls = if is_served { 8 } else { 3 };
-    assert!(rt; count == calls && test, "each call");
+    let gathered = gather(rt, callers);
+    let calls = if is_served { 8 } else { 4 };
+    assert!(rt; gathered.count == calls && gathered.is_matched, "each call");
     Ok(())
 }
 
@@ -149,7 +146,8 @@ fn plays<R: Threads + Wait + Abort + Sync>(
 ) -> Result<(), AllocError> {
     let begun = world_and_ends(alloc, b"home srv:/home")?;
     let (put, _takers) = pipe(alloc, 1, 1)?;
-    released::<Brand, R>(rt, alloc, Blank::new(2), begun, put, is_served)
+    let logbook = Logbook::new(alloc)?;
+    released::<Brand, R>(rt, alloc, logbook, begun, put, is_served)
 }
 
 #[test]

@@ -4,9 +4,8 @@ ghost use Rattle.std.specs.Prelude.{◌<◌};
 
 use crate::tests::worlds::world_and_ends;
 use am_machine::{Answer, Entry, Event};
-use am_map::Entry as MapEntry;
-use am_names::{Errno, FailNo, Trigger};
-use am_runner::{Backend, Gate, Run, Tally, run_threads, run_with};
+use am_names::{Errno, FailNo, Place, Trigger};
+use am_runner::{Backend, Errand, Gate, Run, Tally, run_threads, run_with};
 use am_shared::Shared;
 use std::alloc::{AllocError, Global};
 use std::process::Abort;
@@ -63,13 +62,21 @@ struct Meets<'a> {
     meeting: &'a Meeting,
 }
 
+/// Whether a worker is told one of the walkers' paths.
+fn is_path(path: &Place) -> bool {
+    PATHS.iter().any(|text| path.text() == *text)
+}
+
 impl Backend for Meets<'_> {
-    fn mount(&mut self, _trigger: &Trigger, _entry: &MapEntry) -> Result<(), FailNo> {
+    fn mount(&mut self, errand: &Errand<'_>) -> Result<(), FailNo> {
+        if !is_path(errand.path) {
+            self.meeting.missed.fetch_add(1, Ordering::SeqCst);
+        }
         self.meeting.at(&self.meeting.mounts);
         Ok(())
     }
 
-    fn umount(&mut self, _trigger: &Trigger) -> Result<(), FailNo> {
+    fn umount(&mut self, _trigger: &Trigger, _path: &Place) -> Result<(), FailNo> {
         Ok(())
     }
 }
@@ -92,6 +99,8 @@ struct End {
     are_released: bool,
     /// How often an expiry was asked for.
     expiries: usize,
+    /// How many notes wait for room in the pipe.
+    unsent: usize,
 }
 
 fn end_of(shared: &Shared) -> End {
@@ -101,6 +110,7 @@ fn end_of(shared: &Shared) -> End {
             .iter()
             .any(|entry| is_refused(entry, Errno::NotReleased)),
         expiries: history.iter().filter(|entry| is_expiry(*entry)).count(),
+        unsent: shared.unsent(),
     }
 }
 
@@ -143,8 +153,10 @@ fn two_at_once<R: Threads + Wait + Abort + Sync>(
     assert_eq!(rt; meeting.gates.load(Ordering::SeqCst), 2);
     assert_eq!(rt; meeting.mounts.load(Ordering::SeqCst), 2);
     assert_eq!(rt; ran.backends.len(), 2);
+    assert!(rt; ran.left.is_empty(), "each note was taken");
     assert!(rt; ran.found.are_released, "no walker resumes too early");
     assert_eq!(rt; ran.found.expiries, 1);
+    assert_eq!(rt; ran.found.unsent, 0);
     Ok(())
 }
 

@@ -4,10 +4,9 @@
 use am_map::{Map, MapKind};
 use am_master::Master;
 use am_names::{Errno, Limits, Seconds};
-use am_runner::Opening;
 use am_script::answer_line::push_answer;
 use am_script::event_line::read_event;
-use am_shared::{Caller, Opened, Receipt};
+use am_shared::{Caller, Opened, Opening, Receipt};
 use am_world::{Answer, Event, World};
 use std::alloc::{AllocError, Global};
 use std::sync::Wait;
@@ -66,7 +65,8 @@ pub fn call<'a, L: Opened, R: Wait>(
     line: &[u8],
 ) -> Option<&'a Receipt> {
     let event = event_in_the_end(alloc, line)?;
-    caller.call(rt, alloc, event).ok()
+    let _position = caller.call(rt, alloc, event).ok()?;
+    caller.receipt()
 }
 
 /// Whether the line of an answer is this.

@@ -4,4 +4,4 @@ use Rattle.am_draw.proofs.row.put_book.Goals as goal
 pub returns : goal.returns
 returns g c =
     puts_two _ _ _ _ _ _ _ _
-    c.put_word.ensures c.put_entry.ensures
+    c.put_book_title.ensures c.put_book_entry.ensures

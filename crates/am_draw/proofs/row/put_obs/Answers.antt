@@ -5,10 +5,9 @@ pub returns-in-Waits : goal.returns-in-Waits
 returns-in-Waits g c =
     rw (c.in-Waits.is, ← c.walker_x-from.ensures.x, ← c.token_x-in-Waits.ensures.x) c.put_stroke.ensures
 
-pub returns-in-Recorded : goal.returns-in-Recorded
-returns-in-Recorded g c =
-    rw (c.in-Recorded.is, ← c.moved-in-Recorded.ensures.moved)
-    (puts_three _ _ _ _ _ _ _ _ _ _ _ c.put_opening.ensures c.put_book.ensures c.put_closing.ensures)
+pub returns-in-Released : goal.returns-in-Released
+returns-in-Released g c =
+    rw (c.in-Released.is, ← c.token_x-from.ensures.x, ← c.walker_x-to.ensures.x) c.put_released.ensures
 
 pub returns-in-Reattached : goal.returns-in-Reattached
 returns-in-Reattached g c =
@@ -17,7 +16,7 @@ returns-in-Reattached g c =
 pub returns-in-Died : goal.returns-in-Died
 returns-in-Died g c =
     rw (c.in-Died.is, ← c.moved-in-Died.ensures.moved)
-    (puts_three _ _ _ _ _ _ _ _ _ _ _ c.put_opening-in-Died.ensures c.put_word.ensures c.put_closing-in-Died.ensures)
+    (puts_three _ _ _ _ _ _ _ _ _ _ _ c.put_opening.ensures c.put_word.ensures c.put_closing.ensures)
 
 pub returns-in-Passed : goal.returns-in-Passed
 returns-in-Passed g c = rw (c.in-Passed.is, ← c.walker_x.ensures.x) c.put_stamp-in-Passed.ensures

@@ -9,7 +9,7 @@ abbrev pub invariant-loop-end : goal.invariant-loop-end
 invariant-loop-end g l = record {
   can : (goal.iterator-loop-end g).can_next l.end-iterator;
   finite : (goal.iterator-loop-end g).is_finite l.end-iterator;
-  queue : IsPassOf (arc_value l.queue) l.pass;
+  queue : IsPassOf ((arc_value l.line).queue) l.pass;
   pipe : l.pass.table_id ≡ l.fn.put.pipe;
   view : known l.pass
       ≡ end_view true l.fn.put.takers (length l.yielded) l.fn.put.sent (taken_by l.yielded);

@@ -1,5 +1,6 @@
-use Rattle.std.proofs.Common.{◌≡◌, [], ap, ◌∙◌, rules}
-use Rattle.am_pipe.specs.{Taker, known}
+use Rattle.std.proofs.Common.{◌≡◌, false, [], arith, ap, ◌∙◌, rules}
+use Rattle.am_pipe.specs.{Taker, known, read_by}
+use Rattle.am_pipe.proofs.MeterLemmas.{opens, splits}
 use Rattle.am_pipe.proofs.MoveLemmas.{begins, forks}
 use Rattle.am_pipe.proofs.RestLemmas.{all_snoc}
 use Rattle.am_pipe.proofs.ends.pipe.Goals as goal
@@ -10,6 +11,12 @@ ruled-requires-clause-rule c = begins
 pub another-other-requires-clause-rule : goal.another-other-requires-clause-rule
 another-other-requires-clause-rule c = forks _ _ (ap (λ v. v.puts) c.loop-made.invariant.view)
 
+pub of_words-requires : goal.of_words-requires
+of_words-requires c = opens []
+
+pub split_seat-other_seat-requires : goal.split_seat-other_seat-requires
+split_seat-other_seat-requires c = (search rules, search (rules, arith), splits _ _)
+
 pub loop-made-preserved : goal.loop-made-preserved
 loop-made-preserved c =
     let id = c.another-other.new.pass.table_id in
@@ -17,15 +24,19 @@ loop-made-preserved c =
     let theirs : c.another-other.result.table_id ≡ id = search rules in
     let got = (known c.another-other.result).got in
     let none : got ≡ [] = ap (λ v. v.got) c.another-other.ensures.rule.1 in
-    let new : Taker = record { pipe = c.another-other.result.table_id; got = got } in record {
+    let over = (read_by c.split_seat-other_seat.result).over in
+    let open_yet : over ≡ false = ap (λ m. (m.0).over) c.split_seat-other_seat.ensures.4 in
+    let new : Taker = record { pipe = c.another-other.result.table_id; got = got; over = over } in record {
       queue = search rules;
+      seat = search rules;
+      counts = search rules;
       room = search rules;
       view = search rules;
       len = search rules;
       fits = search rules;
       each = rw c.push_reserved.ensures.items
-          (all_snoc (λ (t : Taker). t ≡ record { pipe = id; got = [] }) c.loop-made.ends.items new
+          (all_snoc (λ (t : Taker). t ≡ record { pipe = id; got = []; over = false }) c.loop-made.ends.items new
           (λ k d lt.
-          c.loop-made.invariant.each k d lt ∙ (λ i. record { pipe = same i; got = [] }))
-          (λ i. record { pipe = theirs i; got = none i }));
+          c.loop-made.invariant.each k d lt ∙ (λ i. record { pipe = same i; got = []; over = false }))
+          (λ i. record { pipe = theirs i; got = none i; over = open_yet i }));
     }

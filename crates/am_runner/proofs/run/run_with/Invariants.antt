@@ -1,13 +1,16 @@
+use Rattle.am_shared.specs.{opening_of}
+use Rattle.am_runner.specs.{plan_of}
 use Rattle.am_runner.proofs.run.run_with.Given as goal
+
+abbrev pub ghosts-run_among-L-Planned : goal.ghosts-run_among-L-Planned
+ghosts-run_among-L-Planned g a = record { plan = plan_of a.run }
 
 abbrev pub ghosts-run_among-L-Opened : goal.ghosts-run_among-L-Opened
 ghosts-run_among-L-Opened g a = record {
-  opening = record {
-    limits = a.opening.limits;
-    master = a.opening.master;
-    maps = a.opening.maps.items;
-  };
+  opening = opening_of a.start.opening;
+  pipe = a.start.put.pipe;
+  takers = a.start.put.takers;
+  room = a.start.put.room;
+  logbook = a.start.logbook;
+  callers = a.start.callers;
 }
-
-abbrev pub ghosts-run_among-L-Ledger : goal.ghosts-run_among-L-Ledger
-ghosts-run_among-L-Ledger g a = record { name = a.blank.name; parts = a.blank.parts }

@@ -1,30 +1,49 @@
-use Rattle.std.proofs.Common.{◌≡◌, [], length, sym, ap, ◌∙◌, arith, rules}
-use Rattle.std.specs.Prelude.{List}
-use Rattle.am_machine.specs.{Entry, setup_of}
-use Rattle.am_shared.specs.{Receipt}
-use Rattle.std.proofs.lemmas.List.Elements.{All-push}
+use Rattle.std.proofs.Common.{◌≡◌, List, [], ◌∷◌, All, rules, sym, ◌∙◌, subst, arith}
+use Rattle.std.proofs.lemmas.List.Elements.{All-push, All-rest}
+use Rattle.std.specs.Vec.Iter.{into_iter_items}
+use Rattle.atomic_table.specs.Seated.{TableId}
+use Rattle.atomic_table.specs.declared.shared.Seat.{Seat}
+use Rattle.am_machine.specs.{Entry}
+use Rattle.am_shared.specs.{Known, Receipt}
+use Rattle.am_shared.specs.Chronicle.{caller}
+use Rattle.am_shared.specs.Passes.{CallsOn, view_of}
+use Rattle.am_shared.proofs.CallLemmas.{fresh_caller}
 use Rattle.am_shared.proofs.caller.share.Goals as goal
 
-pub loop-made-init : goal.loop-made-init
-loop-made-init g c = record {
-  parts = search rules;
-  amount = search rules;
-  len = search rules;
-  fits = search rules;
-  each = rw c.in_ok-made.ensures.items (search rules);
-}
+pub loop-pass-init : goal.loop-pass-init
+loop-pass-init g c =
+    let passes = c.in_ok-passes.passes.items in
+    let items : into_iter_items c.into_iter-pass-iterator.result ≡ passes = search rules in
+    let same = c.logbook.view_is ∙ sym c.requires.logbook in
+    let fresh : All (λ (pass : Seat Entry Known). CallsOn g.L.Opened.logbook pass × (view_of pass ≡ caller [] [])) passes =
+    subst (λ (t : TableId). All (λ (pass : Seat Entry Known). CallsOn t pass × (view_of pass ≡ caller [] [])) passes)
+    same c.in_ok-passes.ensures.each in record {
+      can = search rules;
+      finite = search rules;
+      count = search rules;
+      room = search rules;
+      passes = subst (λ (l : List (Seat Entry Known)). All (λ (pass : Seat Entry Known). CallsOn g.L.Opened.logbook pass × (view_of pass ≡ caller [] [])) l)
+          (sym items) fresh;
+      each = rw c.in_ok-made.ensures.items (search rules);
+    }
 
-pub loop-made-preserved : goal.loop-made-preserved
-loop-made-preserved g c = record {
-  parts = search rules;
-  amount = search rules;
-  len = search rules;
-  fits = search rules;
-  each = rw c.push_reserved.ensures.items (All-push (λ (x : List Receipt). x ≡ []) _ _ c.loop-made.invariant.each (search rules));
-}
+pub loop-pass-preserved : goal.loop-pass-preserved
+loop-pass-preserved g c =
+    let others = into_iter_items c.next.new.self in
+    let step : into_iter_items c.loop-pass.pass-iterator ≡ c.in-Some.pass ∷ others = search rules in record {
+      can = search rules;
+      finite = search rules;
+      count = search rules;
+      room = search rules;
+      passes = All-rest (λ (pass : Seat Entry Known). CallsOn g.L.Opened.logbook pass × (view_of pass ≡ caller [] []))
+          c.in-Some.pass others (into_iter_items c.loop-pass.pass-iterator) step c.loop-pass.invariant.passes;
+      each = rw c.push_reserved.ensures.items (All-push (λ (x : List Receipt). x ≡ []) _ _ c.loop-pass.invariant.each (search rules));
+    }
 
-pub invariant_of-new : goal.invariant_of-new
-invariant_of-new g c = record {
-  counted = ap (λ (entries : List Entry). length entries) c.in_ok-shared.ensures.history ∙ sym c.open-book.ensures.total;
-  opened = ap setup_of c.in_ok-shared.ensures.world ∙ sym c.requires.opening;
-}
+pub invariant_of-push_reserved : goal.invariant_of-push_reserved
+invariant_of-push_reserved g c =
+    let others = into_iter_items c.next.new.self in
+    let step : into_iter_items c.loop-pass.pass-iterator ≡ c.in-Some.pass ∷ others = search rules in
+    let all = subst (λ (l : List (Seat Entry Known)). All (λ (pass : Seat Entry Known). CallsOn g.L.Opened.logbook pass × (view_of pass ≡ caller [] [])) l)
+    step c.loop-pass.invariant.passes in
+    fresh_caller g.L.Opened.logbook c.in-Some.pass _ (all 0 c.in-Some.pass (omega arith)) (search rules)

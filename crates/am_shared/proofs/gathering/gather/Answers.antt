@@ -1,50 +1,73 @@
-use Rattle.std.proofs.Common.{◌≡◌, ◌∷◌, ◌++◌, [], length, List, rules, refl, ap, sym, ◌∙◌, subst, arith}
-use Rattle.std.specs.Prelude.{◌↔◌, IsTrue}
+use Rattle.std.proofs.Common.{◌≡◌, ℕ, List, [], ◌∷◌, ◌++◌, Some, rules, sym, ap, ◌∙◌, subst, length}
 use Rattle.am_machine.specs.{Entry}
-use Rattle.am_shared.specs.{Receipt, EachAgree, EachRise, AtMostOnce, count_in}
-use Rattle.am_shared.proofs.ApplyLemmas.{shared_from}
-use Rattle.am_shared.proofs.MatchLemmas.{count_snoc, order_test_decides}
+use Rattle.am_shared.specs.{AtMostOnce, EachAgree, EachRise, Matches, Receipt, count_in}
+use Rattle.am_shared.specs.Calls.{all_calls, calls_of}
+use Rattle.am_shared.specs.Chronicle.{AreIn, weigh, weigh_to}
+use Rattle.am_shared.specs.Passes.{view_of}
+use Rattle.am_shared.specs.Sharing.{Sharing}
+use Rattle.am_shared.proofs.CallLemmas.{all_calls_agree, all_match, all_snoc, at_most, counts, each_rise_snoc}
 use Rattle.am_shared.proofs.gathering.gather.Goals as goal
 
-pub returns : goal.returns
-returns g c =
-    let front = c.pop.new.self.items in
-    let last = c.in-Some.last in
-    let all = c.args.callers.items in
-    let whole : all ≡ front ++ last ∷ [] = c.in-Some.ensures.items in
-    let s = c.deref-3.result.now.shared in
-    let same : c.audit.new.self.shared ≡ s = search rules in
-    let mine : length last ≡ c.last.inside.share.amount =
-    ap length (sym c.last.view_is) ∙ sym c.last.inside.receipts.ok.0 ∙ sym c.last.invariant.1 in
-    let count : length s.history ≡ count_in all =
-    omega (
-      arith,
-      ap (λ x. length x.history) same,
-      c.audit.ensures.count,
-      c.merged-all.ensures.amount,
-      mine,
-      count_snoc front last,
-      ap count_in whole,
-    ) in
-    let order : IsTrue c.are_in_order-in_order.result ↔ EachRise all × AtMostOnce all =
-    subst (λ (x : List (List Receipt)). IsTrue c.are_in_order-in_order.result ↔ EachRise x × AtMostOnce x)
-    c.as_slice.ensures.value c.are_in_order-in_order.ensures in
-    let history : c.history.result.now ≡ s.history = search rules in
-    let callers : c.as_slice-2.result.now ++ c.as_slice-3.result.now ∷ [] ≡ all =
-    (λ i. c.as_slice-2.ensures.value i ++ (c.as_slice-3.ensures.value ∙ c.last.view_is) i ∷ [])
-    ∙ sym whole in
-    let agree = subst
-    (λ (x : List Entry × List (List Receipt)). IsTrue c.are_matched-test.result
-    ↔ IsTrue c.are_in_order-in_order.result × EachAgree x.0 x.1)
-    (λ i. (history i, callers i)) c.are_matched-test.ensures in
-    let test = order_test_decides s.history all _ _ count order agree in
-    let shown : length c.history-2.result.now ≡ count_in all =
-    ap length c.history-2.ensures.history ∙ count in
-    let post = rw shown at c.f.ensures in (
-      s,
-      c.are_matched-test.result,
-      shared_from g.L.Opened.opening s c.history-2.ensures.shared c.deref-3.result.now.opened,
-      count,
-      test,
-      (_, post, refl),
+pub returns-clause-count : goal.returns-clause-count
+returns-clause-count g c =
+    let h = c.take-shared.result.history in
+    let cs = c.pop.new.self.items in
+    let rs = c.last.inside.receipts.items in
+    let is : (view_of c.are_matched-is_matched.new.calling).mine ≡ calls_of rs =
+    c.are_matched-is_matched.ensures.caller.1 ∙ c.last.invariant.1 in
+    let all : c.args.callers.items ≡ cs ++ rs ∷ [] = search rules in
+    let calls = ap (λ l. all_calls cs ++ l) is ∙ sym (all_snoc cs rs) in
+    let once : (f : ℕ → ℕ) → weigh f (all_calls (cs ++ rs ∷ [])) ≡ weigh_to f (length h) =
+    λ f. sym (ap (weigh f) calls) ∙ c.take-shared.ensures.once f in
+    let count : length h ≡ count_in c.args.callers.items =
+    counts (length h) (cs ++ rs ∷ []) once ∙ sym (ap count_in all) in
+    (ap length c.history.ensures.history ∙ count, count)
+
+pub returns-clause-matched : goal.returns-clause-matched
+returns-clause-matched g c =
+    let h = c.take-shared.result.history in
+    let cs = c.pop.new.self.items in
+    let rs = c.last.inside.receipts.items in
+    let is : (view_of c.are_matched-is_matched.new.calling).mine ≡ calls_of rs =
+    c.are_matched-is_matched.ensures.caller.1 ∙ c.last.invariant.1 in
+    let all : c.args.callers.items ≡ cs ++ rs ∷ [] = search rules in
+    let calls = ap (λ l. all_calls cs ++ l) is ∙ sym (all_snoc cs rs) in
+    let rise : EachRise (cs ++ rs ∷ []) =
+    each_rise_snoc cs rs c.take-shared.ensures.rise c.last.invariant.2 in
+    subst (λ (l : List (List Receipt)). Matches h l) (sym all)
+    (all_match h (cs ++ rs ∷ [])
+    (subst (λ (l : List (ℕ × Entry)). AreIn h l) calls c.take-shared.ensures.calls)
+    (λ f. sym (ap (weigh f) calls) ∙ c.take-shared.ensures.once f) rise)
+
+pub returns-clause-test : goal.returns-clause-test
+returns-clause-test g c =
+    let h = c.take-shared.result.history in
+    let cs = c.pop.new.self.items in
+    let rs = c.last.inside.receipts.items in
+    let is : (view_of c.are_matched-is_matched.new.calling).mine ≡ calls_of rs =
+    c.are_matched-is_matched.ensures.caller.1 ∙ c.last.invariant.1 in
+    let all : c.args.callers.items ≡ cs ++ rs ∷ [] = search rules in
+    let calls = ap (λ l. all_calls cs ++ l) is ∙ sym (all_snoc cs rs) in
+    let once : (f : ℕ → ℕ) → weigh f (all_calls (cs ++ rs ∷ [])) ≡ weigh_to f (length h) =
+    λ f. sym (ap (weigh f) calls) ∙ c.take-shared.ensures.once f in
+    let rise : EachRise (cs ++ rs ∷ []) =
+    each_rise_snoc cs rs c.take-shared.ensures.rise c.last.invariant.2 in
+    let agree : EachAgree h (cs ++ rs ∷ []) =
+    all_calls_agree h (cs ++ rs ∷ [])
+    (subst (λ (l : List (ℕ × Entry)). AreIn h l) calls c.take-shared.ensures.calls) in
+    let test = c.are_matched-is_matched.ensures.test in
+    let found : Some test.0 ≡ Some c.take-shared.result = search rules in
+    let same : h ≡ (test.0).history = cc in
+    let given : c.as_slice.result.now ≡ cs ++ rs ∷ [] = search rules in
+    let in_order = c.are_in_order-in_order.ensures.1
+    (subst (λ (l : List (List Receipt)). EachRise l × AtMostOnce l) (sym given)
+    (rise, at_most (length h) (cs ++ rs ∷ []) once)) in
+    let front : c.as_slice-2.result.now ≡ cs = search rules in
+    let last : c.as_slice-3.result.now ≡ rs = search rules in
+    let both : cs ++ rs ∷ [] ≡ c.as_slice-2.result.now ++ c.as_slice-3.result.now ∷ [] =
+    λ i. sym front i ++ sym last i ∷ [] in
+    test.2.1 (
+      in_order,
+      subst (λ (l : List (List Receipt)). EachAgree (test.0).history l) both
+          (subst (λ (l : List Entry). EachAgree l (cs ++ rs ∷ [])) same agree),
     )

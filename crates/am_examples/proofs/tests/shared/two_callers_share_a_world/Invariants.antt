@@ -1,13 +1,12 @@
+use Rattle.am_shared.specs.{opening_of}
 use Rattle.am_examples.proofs.tests.shared.two_callers_share_a_world.Given as goal
 
-abbrev pub ghosts-plays-L-Opened : goal.ghosts-plays-L-Opened
-ghosts-plays-L-Opened g a = record {
-  opening = record {
-    limits = a.limits;
-    master = a.master;
-    maps = a.maps.items;
-  };
+abbrev pub ghosts-plays : goal.ghosts-plays
+ghosts-plays g a = record {
+  opening = opening_of a.opening;
+  pipe = a.put.pipe;
+  takers = a.put.takers;
+  room = a.put.room;
+  logbook = a.logbook;
+  callers = 2;
 }
-
-abbrev pub ghosts-plays-L-Ledger : goal.ghosts-plays-L-Ledger
-ghosts-plays-L-Ledger g a = record { name = a.blank.name; parts = a.blank.parts }

@@ -1,11 +1,14 @@
-use Rattle.std.proofs.Common.{refl}
-use Rattle.am_shared.proofs.ApplyLemmas.{shared_from}
+use Rattle.std.proofs.Common.{ℕ, List, ap, ◌∙◌, subst}
+use Rattle.am_machine.specs.{Entry}
+use Rattle.am_shared.specs.Calls.{calls_of}
+use Rattle.am_shared.specs.Chronicle.{AreIn}
+use Rattle.am_shared.proofs.CallLemmas.{calls_agree}
 use Rattle.am_shared.proofs.caller.Caller.look.Goals as goal
 
-pub returns : goal.returns
-returns g c = (
-  c.deref-2.result.now.shared,
-  shared_from g.L.Opened.opening c.deref-2.result.now.shared c.history-history.ensures.shared
-      c.deref-2.result.now.opened,
-  (_, c.f.ensures, refl),
-)
+pub returns-clause-lent : goal.returns-clause-lent
+returns-clause-lent g c =
+    let lent = c.lend.ensures.lent in
+    let calls = c.self.invariant.1 ∙ ap calls_of c.self.view_is in
+    let agree = calls_agree lent.0.history c.args.self.now
+    (subst (λ (l : List (ℕ × Entry)). AreIn lent.0.history l) calls lent.3) in
+    (lent.0, lent.2, agree, lent.4)

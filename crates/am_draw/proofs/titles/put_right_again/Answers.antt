@@ -1,0 +1,7 @@
+use Rattle.am_script.proofs.Pieces.{puts_three}
+use Rattle.am_draw.proofs.titles.put_right_again.Goals as goal
+
+pub returns : goal.returns
+returns g c =
+    puts_three _ _ _ _ _ _ _ _ _ _ _
+    c.put_number.ensures c.put_word.ensures c.put_right_words.ensures

@@ -1,0 +1,67 @@
+-- The titles of the columns, which stand once more each forty rows, with who has a bar there: own choice
+-- (docs/FORMATS.md, "Pictures").
+use Rattle.std.specs.Prelude.{ℕ, zero, suc, ◌+◌, ◌-◌, ◌*◌, List, [], ◌++◌, get_or, codes, decimal, Option, None, Some, if◌then◌else◌}
+use Rattle.am_lanes.specs.{Holder, Look}
+use Rattle.am_lanes.specs.declared.holder.Look.TheVariants.{Missing, Expire, Ended, Waits, Inside, Idle}
+use Rattle.am_draw.specs.declared.marks.LaneKind.{LaneKind}
+use Rattle.am_draw.specs.declared.marks.LaneKind.TheVariants.{OfTokens, OfWalkers}
+use Rattle.am_draw.specs.declared.part.Part.{Part}
+use Rattle.am_draw.specs.Lasting.{Lasts}
+use Rattle.am_draw.specs.Look.{left_again_text, right_again_text}
+use Rattle.am_draw.specs.Marks.{label, lane_x, shift}
+use Rattle.am_draw.specs.Parts.{has_titles}
+use Rattle.am_draw.specs.Stretches.{walker_columns, token_columns}
+
+-- the number of one who looks so, beside its bar; one without a bar has none
+abbrev pub name : Look → ℕ → ℕ → List ℕ
+name (Missing fs) number x = label (codes "k") x 21 (decimal number)
+name (Expire fs) number x = label (codes "k") x 21 (decimal number)
+name Ended number x = []
+name Waits number x = label (codes "s n") (x - 8) 19 (decimal number)
+name Inside number x = label (codes "s n") (x - 8) 19 (decimal number)
+name Idle number x = []
+
+-- that of the one in a lane
+abbrev pub lane_name : Option Holder → ℕ → List ℕ
+lane_name None x = []
+lane_name (Some holder) x = name holder.look holder.number x
+
+-- those in the first so many of these lanes, behind so many of walkers
+abbrev pub lane_names : LaneKind → ℕ → List (Option Holder) → ℕ → List ℕ
+lane_names kind walkers lanes zero = []
+lane_names kind walkers lanes (suc lane) =
+    lane_names kind walkers lanes lane ++ lane_name (get_or lanes lane None) (lane_x kind walkers lane)
+
+-- so many lanes of walkers, and of tokens, are told of
+abbrev pub named_lanes : ℕ
+named_lanes = 64
+
+-- those in the first lanes
+abbrev pub first_names : LaneKind → ℕ → List (Option Holder) → List ℕ
+first_names kind walkers lanes = lane_names kind walkers lanes named_lanes
+
+-- who has a bar
+abbrev pub names : Lasts → List ℕ
+names lasts =
+    first_names OfWalkers (walker_columns lasts) lasts.walkers
+    ++ first_names OfTokens (walker_columns lasts) lasts.tokens
+
+-- the title of the columns of tokens
+abbrev pub tokens_again : ℕ → List ℕ
+tokens_again walkers = label (codes "s") (328 + 44 * walkers) 9 (codes "tokens")
+
+-- the titles of the columns at the right, which are moved so far
+abbrev pub right_again : ℕ → List ℕ
+right_again far = codes "<g transform='translate(" ++ decimal far ++ (codes ")'>\n" ++ right_again_text)
+
+-- all of them, above the row
+abbrev pub titles : Lasts → List ℕ
+titles lasts =
+    left_again_text
+    ++ (tokens_again (walker_columns lasts)
+    ++ (right_again (shift (walker_columns lasts) (token_columns lasts))
+    ++ (names lasts ++ codes "</g>\n")))
+
+-- the same, if they stand there
+abbrev pub titles_in : Part → ℕ → Lasts → List ℕ
+titles_in part number lasts = if has_titles part.skipped number then titles lasts else []

@@ -1,0 +1,174 @@
+//! The titles of the columns, which stand once more each forty rows.
+
+ghost use Rattle.std.specs.Prelude.{◌≡◌, ◌≤◌, ◌-◌, ◌++◌, codes, decimal};
+ghost use Rattle.am_script.specs.{Puts};
+ghost use Rattle.am_draw.specs.Lasting.{lasts_of};
+ghost use Rattle.am_draw.specs.Look.{left_again_text, right_again_text};
+ghost use Rattle.am_draw.specs.Marks.{label};
+ghost use Rattle.am_draw.specs.Titles.{name, lane_name, first_names, names, tokens_again, right_again, titles, titles_in};
+
+use crate::lasting::Lasting;
+use crate::look::{left_again, right_again};
+use crate::marks::{LaneKind, lane_x, put_closing, put_number_label, put_opening, shift};
+use crate::part::Part;
+use crate::stretch::{token_columns, walker_columns};
+use am_lanes::{Holder, Lanes, Look};
+use am_script::answer_line::{put_number, put_word};
+use am_script::output::Output;
+use std::io::Write;
+
+/// So many lanes of walkers, and of tokens, are told of.
+const NAMED_LANES: usize = 64;
+
+fn put_token_name<W: Write>(output: &mut Output, number: u32, x: u64, writer: &mut W)
+    ensures { Puts output.old output.new (label (codes "k") x 21 (decimal number)) (W.contents writer.old)
+        (W.contents writer.new) }
+{
+    put_number_label(output, b"k", x, 21, b"", u64::from(number), writer);
+}
+
+fn put_walker_name<W: Write>(output: &mut Output, number: u32, x: u64, writer: &mut W)
+    requires { 8 ≤ x }
+    ensures { Puts output.old output.new (label (codes "s n") (x - 8) 19 (decimal number)) (W.contents writer.old)
+        (W.contents writer.new) }
+{
+    put_number_label(output, b"s n", x - 8, 19, b"", u64::from(number), writer);
+}
+
+/// Puts out the number of one who looks so, beside its bar.
+#[tactic(auto, using(am_script::proofs::Pieces::puts_none))]
+fn put_name<W: Write>(output: &mut Output, look: Look, number: u32, x: u64, writer: &mut W)
+    requires { 8 ≤ x }
+    ensures { Puts output.old output.new (name look number x) (W.contents writer.old)
+        (W.contents writer.new) }
+{
+    match look {
+        Look::Missing { .. } => put_token_name(output, number, x, writer),
+        Look::Expire { .. } => put_token_name(output, number, x, writer),
+        Look::Ended => (),
+        Look::Waits => put_walker_name(output, number, x, writer),
+        Look::Inside => put_walker_name(output, number, x, writer),
+        Look::Idle => (),
+    }
+}
+
+#[tactic(auto, using(am_script::proofs::Pieces::puts_none))]
+fn put_lane_name<W: Write>(output: &mut Output, lane: &Option<Holder>, x: u64, writer: &mut W)
+    requires { 8 ≤ x }
+    ensures { Puts output.old output.new (lane_name lane.now x) (W.contents writer.old)
+        (W.contents writer.new) }
+{
+    if let Some(holder) = lane {
+        put_name(output, holder.look, holder.number, x, writer);
+    }
+}
+
+/// Puts out who has a bar in the first of these lanes, behind so many of walkers.
+#[tactic(auto, using(am_script::proofs::Pieces::puts_none))]
+fn put_first_names<W: Write>(
+    output: &mut Output,
+    kind: LaneKind,
+    walkers: u64,
+    lanes: &Lanes,
+    writer: &mut W,
+)
+    requires { walkers ≤ 1000000 }
+    ensures { Puts output.old output.new (first_names kind walkers lanes.now)
+        (W.contents writer.old) (W.contents writer.new) }
+{
+    for lane in 0..NAMED_LANES {
+        let x = lane_x(kind, walkers, lane);
+        put_lane_name(output, &lanes.holder(lane), x, writer);
+    }
+}
+
+#[tactic(auto, using(am_script::proofs::Pieces::puts_two))]
+fn put_names<W: Write>(output: &mut Output, lasting: &Lasting, writer: &mut W)
+    ensures { Puts output.old output.new (names (lasts_of lasting.now)) (W.contents writer.old)
+        (W.contents writer.new) }
+{
+    let walkers = walker_columns(lasting);
+    put_first_names(
+        output,
+        LaneKind::OfWalkers,
+        walkers,
+        &lasting.walkers,
+        writer,
+    );
+    put_first_names(output, LaneKind::OfTokens, walkers, &lasting.tokens, writer);
+}
+
+#[tactic(auto, using(am_script::proofs::Pieces::puts_three))]
+fn put_tokens_again<W: Write>(output: &mut Output, walkers: u64, writer: &mut W)
+    requires { walkers ≤ 1000000 }
+    ensures { Puts output.old output.new (tokens_again walkers) (W.contents writer.old)
+        (W.contents writer.new) }
+{
+    put_opening(output, b"s", 328 + 44 * walkers, 9, writer);
+    put_word(output, b"tokens", writer);
+    put_closing(output, writer);
+}
+
+fn put_right_words<W: Write>(output: &mut Output, writer: &mut W)
+    ensures { Puts output.old output.new right_again_text (W.contents writer.old)
+        (W.contents writer.new) }
+{
+    put_word(output, right_again(), writer);
+}
+
+#[tactic(auto, using(am_script::proofs::Pieces::puts_three))]
+fn put_right_again<W: Write>(output: &mut Output, far: u64, writer: &mut W)
+    ensures { Puts output.old output.new (right_again far) (W.contents writer.old)
+        (W.contents writer.new) }
+{
+    put_number(output, b"<g transform='translate(", far, writer);
+    put_word(output, b")'>\n", writer);
+    put_right_words(output, writer);
+}
+
+fn put_left_again<W: Write>(output: &mut Output, writer: &mut W)
+    ensures { Puts output.old output.new left_again_text (W.contents writer.old)
+        (W.contents writer.new) }
+{
+    put_word(output, left_again(), writer);
+}
+
+#[tactic(auto, using(am_script::proofs::Pieces::puts_two))]
+fn put_named<W: Write>(output: &mut Output, lasting: &Lasting, writer: &mut W)
+    ensures { Puts output.old output.new (names (lasts_of lasting.now) ++ codes "</g>\n")
+        (W.contents writer.old) (W.contents writer.new) }
+{
+    put_names(output, lasting, writer);
+    put_word(output, b"</g>\n", writer);
+}
+
+/// Puts out the titles above a row.
+#[tactic(auto, using(am_views::proofs::FourPieces::puts_four))]
+fn put_titles<W: Write>(output: &mut Output, lasting: &Lasting, writer: &mut W)
+    ensures { Puts output.old output.new (titles (lasts_of lasting.now)) (W.contents writer.old)
+        (W.contents writer.new) }
+{
+    let walkers = walker_columns(lasting);
+    let far = shift(walkers, token_columns(lasting));
+    put_left_again(output, writer);
+    put_tokens_again(output, walkers, writer);
+    put_right_again(output, far, writer);
+    put_named(output, lasting, writer);
+}
+
+/// Puts out the titles above the row of the event with this number, if they stand there.
+#[tactic(auto, using(am_script::proofs::Pieces::puts_none))]
+pub(crate) fn put_titles_in<W: Write>(
+    output: &mut Output,
+    part: &Part,
+    number: u64,
+    lasting: &Lasting,
+    writer: &mut W,
+)
+    ensures { Puts output.old output.new (titles_in part.now number (lasts_of lasting.now))
+        (W.contents writer.old) (W.contents writer.new) }
+{
+    if part.has_titles(number) {
+        put_titles(output, lasting, writer);
+    }
+}
