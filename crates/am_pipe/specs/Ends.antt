@@ -1,6 +1,6 @@
 -- What contracts see of the ends of a pipe
 -- (autofs.rst, "Communicating with autofs: the event pipe").
-use Rattle.std.specs.Prelude.{◌≡◌, ℕ, ◌+◌, ◌-◌, ◌<◌, ◌==◌, List, [], ◌∷◌, ◌++◌, Some, slice_get}
+use Rattle.std.specs.Prelude.{◌≡◌, ℕ, ◌+◌, ◌-◌, ◌<◌, ◌≤◌, ◌==◌, List, [], ◌∷◌, ◌++◌, Some, slice_get}
 use Rattle.std.specs.Prelude.{All, if◌then◌else◌, nat_le, nat_lt, ◌&&◌, ◌||◌, ◌^◌, Bool, false, length}
 use Rattle.atomic_table.specs.Seated.{TableId}
 use Rattle.am_pipe.specs.declared.note.Note.{Note}
@@ -16,12 +16,24 @@ pub record Putter : Type 0 where
   pub looks : ℕ
   pub freed : ℕ
 
--- a take end: its pipe, the notes that it took, in order, each with its position, and whether it
--- found the pipe closed
+-- a take end: its pipe, the notes that it took, in order, each with its position, whether it found
+-- the pipe closed, how often it looked at the numbers, and what it read then: how many puts were over,
+-- and after that how many takes
 pub record Taker : Type 0 where
   pub pipe : TableId
   pub got : List (ℕ × Note)
   pub over : Bool
+  pub looks : ℕ
+  pub seen : ℕ
+  pub freed : ℕ
+
+-- a take end that has done nothing
+abbrev pub fresh_taker : TableId → Taker
+fresh_taker pipe = record { pipe = pipe; got = []; over = false; looks = 0; seen = 0; freed = 0 }
+
+-- each note whose put was over when the take end looked last was taken then
+abbrev pub IsDrained : Taker → Type 0
+IsDrained take = take.seen ≤ take.freed
 
 -- a pipe has room for one note more behind so many, of which so many were taken, and a position
 abbrev pub has_room : ℕ → ℕ → ℕ → Bool

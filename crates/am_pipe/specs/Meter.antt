@@ -6,33 +6,40 @@ use Rattle.atomic_table.specs.declared.shared.Seat.{Seat}
 use Rattle.am_pipe.specs.declared.meter.MeterView.{MeterView}
 use Rattle.am_pipe.specs.Ends.{total}
 
--- what an end knows: how many takes it counted, how often it read the count, what it found there
--- last, and whether it found the pipe closed
-abbrev pub meter_view : ℕ → ℕ → ℕ → Bool → MeterView
-meter_view took looks freed over =
-    record { took = took; looks = looks; freed = freed; over = over }
-
 -- an end that has done nothing
 abbrev pub fresh_view : MeterView
-fresh_view = meter_view 0 0 0 false
+fresh_view = record { took = 0; put = 0; looks = 0; seen = 0; freed = 0; over = false }
+
+-- the put end looked, and read that so many takes are over
+abbrev pub looked : MeterView → ℕ → MeterView
+looked v n = record v { looks = v.looks + 1; freed = n }
+
+-- a take end looked, and read that so many puts are over; of takes it has read none since
+abbrev pub asked : MeterView → ℕ → MeterView
+asked v n = record v { looks = v.looks + 1; seen = n; freed = 0 }
 
 -- it read that so many takes are over
-abbrev pub looked : MeterView → ℕ → MeterView
-looked v n = meter_view v.took (v.looks + 1) n v.over
+abbrev pub told : MeterView → ℕ → MeterView
+told v n = record v { freed = n }
 
 -- it counted a take
 abbrev pub freed_one : MeterView → MeterView
-freed_one v = meter_view (v.took + 1) v.looks v.freed v.over
+freed_one v = record v { took = v.took + 1 }
+
+-- it counted a put
+abbrev pub put_one : MeterView → MeterView
+put_one v = record v { put = v.put + 1 }
 
 -- it read whether the pipe is closed, where 1 says that it is
 abbrev pub ended : MeterView → ℕ → MeterView
-ended v n = meter_view v.took v.looks v.freed (n == 1 || v.over)
+ended v n = record v { over = n == 1 || v.over }
 
--- there are two numbers, and the first is that of all takes that the ends counted, as far as 64
--- bits go
+-- there are three numbers; the first is that of all takes that the ends counted, as far as 64 bits go, and the third
+-- that of all puts
 pub record IsMeter {S : Type 0} (s : State S MeterView) : Type 0 where
-  pub wide : length s.words ≡ 2
+  pub wide : length s.words ≡ 3
   pub counted : slice_index s.words 0 ≡ total (λ (v : MeterView). v.took) s.views % 2 ^ 64
+  pub given : slice_index s.words 2 ≡ total (λ (v : MeterView). v.put) s.views % 2 ^ 64
 
 -- what the end with this seat knows
 abbrev pub read_by : {S : Type 0} → Seat S MeterView → MeterView

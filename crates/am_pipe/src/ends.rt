@@ -1,15 +1,17 @@
 //! The ends of a pipe.
 
-ghost use Rattle.std.specs.Prelude.{◌≡◌, ◌+◌, ◌^◌, ◌<◌, ◌≤◌, ◌⊎◌, ℕ, true, false, [], ◌∷◌, ◌++◌};
+ghost use Rattle.std.specs.Prelude.{◌≡◌, ◌+◌, ◌^◌, ◌<◌, ◌≤◌, ◌⊎◌, ℕ, true, false, [], ◌∷◌, ◌++◌, IsTrue};
 ghost use Rattle.std.specs.Prelude.{length, vec_len, vec_capacity, All};
 ghost use Rattle.std.specs.Prelude.{IfOk, IfErr, IfSome, IfNone, OnOk, OnErr, MatchOption, ◌||◌};
 ghost use Rattle.crossbeam_queue.specs.Passes.{IsPassOf, ruled_capacity};
-ghost use Rattle.am_pipe.specs.Ends.{taken_by, AreAsPut, HasEachOnce, IsFull, has_room};
+ghost use Rattle.am_pipe.specs.Ends.{taken_by, AreAsPut, HasEachOnce, IsDrained, IsFull, fresh_taker, has_room};
 ghost use Rattle.am_pipe.specs.Meter.{read_by};
 ghost use Rattle.am_pipe.specs.Rule.{end_view, known, weigh, weigh_to};
 
 use crate::line::Line;
-use crate::meter::{CountsTake, Meter, MeterSeat, ReadsCount, ReadsEnd, Seats};
+use crate::meter::{
+    CountsPut, CountsTake, Meter, MeterSeat, ReadsCount, ReadsEnd, ReadsPuts, ReadsTakes, Seats,
+};
 use crate::note::Note;
 use crate::rule::{EndView, Ends, Put, Queue, Take, Whole};
 use crossbeam_queue::Pass;
@@ -50,11 +52,13 @@ impl Model for PutEnd {
     ghost invariant = { λ s. IsPassOf (arc_value s.line).queue s.pass
         × (s.seat.table_id ≡ (arc_value s.line).meter.shared.table_id)
         × (known s.pass ≡ end_view true (known s.pass).made 0 (known s.pass).sent [])
-        × (s.count ≡ length (known s.pass).sent) };
+        × (s.count ≡ length (known s.pass).sent)
+        × ((read_by s.seat).put ≡ length (known s.pass).sent) };
 }
 
 /// An end from which a worker of the daemon takes notes. A contract sees its pipe, what was taken
-/// from this end, in order, and whether it found the pipe closed.
+/// from this end, in order, whether it found the pipe closed, how often it looked how many puts and
+/// takes are over, and what it read then.
 #[derive(Drop)]
 pub struct TakeEnd {
     line: Arc<Line>,
@@ -76,6 +80,9 @@ impl Model for TakeEnd {
       pipe = s.pass.table_id;
       got = (known s.pass).got;
       over = (read_by s.seat).over;
+      looks = (read_by s.seat).looks;
+      seen = (read_by s.seat).seen;
+      freed = (read_by s.seat).freed;
     } };
 
     ghost invariant = { λ s. IsPassOf (arc_value s.line).queue s.pass
@@ -129,6 +136,10 @@ impl PutEnd {
             note,
         )?;
         self.count += 1;
+        self.line
+            .meter
+            .shared
+            .fetch_add::<CountsPut>(&mut self.seat, 2, 1);
         self.line.tell_one(rt);
         Ok(())
     }
@@ -149,6 +160,7 @@ fn put_in<R: Wait>(
     ensures queue { IsPassOf line.now.queue pass.new × (pass.new.table_id ≡ pass.old.table_id) }
     ensures seat { seat.new.table_id ≡ seat.old.table_id }
     ensures looked { (read_by seat.old).looks < (read_by seat.new).looks }
+    ensures given { (read_by seat.new).put ≡ (read_by seat.old).put }
     ensures ok { OnOk result ((count + 1 < 2 ^ 64) × (known pass.new ≡ end_view true
         (known pass.old).made (known pass.old).parts ((known pass.old).sent ++ note ∷ [])
         (known pass.old).got)) }
@@ -181,24 +193,52 @@ fn has_room(put: u64, taken: u64, room: u64) -> bool
 impl TakeEnd {
     /// Takes the oldest note out of the pipe, with its position; nothing where the pipe is empty.
     /// The positions that one end takes rise. It may wait for a put or a take that is under way.
+    ///
+    /// A take that finds nothing has read, in this call, how many puts were over, and after that how
+    /// many takes were, and these were as many.
     pub fn take<R: Wait>(&mut self, rt: &R) -> Option<(u64, Note)>
         ensures pipe { self.new.pipe ≡ self.old.pipe }
-        ensures got { MatchOption result (self.new ≡ self.old)
+        ensures got { MatchOption result (self.new.got ≡ self.old.got)
             (λ x. self.new.got ≡ self.old.got ++ x ∷ []) }
         ensures rising { IfSome result (λ x. All (λ y. y.0 < x.0) self.old.got) }
+        ensures looked { IfNone result (self.old.looks < self.new.looks) }
+        ensures drained { IfNone result (IsDrained self.new) }
+        ensures looks { self.old.looks ≤ self.new.looks }
         ensures over { self.new.over ≡ self.old.over }
     {
-        let found = self.line.queue.pop_as::<Take, R>(rt, &mut self.pass)?;
-        self.line
-            .meter
-            .shared
-            .fetch_add::<CountsTake>(&mut self.seat, 0, 1);
-        Some(found)
+        for _ in rt.forever() {
+            if let Some(found) = self.line.queue.pop_as::<Take, R>(rt, &mut self.pass) {
+                self.line
+                    .meter
+                    .shared
+                    .fetch_add::<CountsTake>(&mut self.seat, 0, 1);
+                return Some(found);
+            }
+            // Where a note was put and isn't taken yet, another end is about to count its take.
+            if self.is_drained() {
+                return None;
+            }
+        }
+        unreachable!()
+    }
+
+    /// Reads how many puts are over, and then how many takes: whether these are as many.
+    fn is_drained(&mut self) -> bool
+        ensures same { (self.new.pipe ≡ self.old.pipe) × (self.new.got ≡ self.old.got)
+            × (self.new.over ≡ self.old.over) }
+        ensures looked { self.old.looks < self.new.looks }
+        ensures drained { IsTrue result → IsDrained self.new }
+    {
+        let shared = &self.line.meter.shared;
+        let put = shared.load::<ReadsPuts>(&mut self.seat, 2);
+        let taken = shared.load::<ReadsTakes>(&mut self.seat, 0);
+        put <= taken
     }
 
     /// Reads whether the pipe is closed.
     fn is_closed(&mut self) -> bool
-        ensures same { (self.new.pipe ≡ self.old.pipe) × (self.new.got ≡ self.old.got) }
+        ensures same { (self.new.pipe ≡ self.old.pipe) × (self.new.got ≡ self.old.got)
+            × (self.new.looks ≡ self.old.looks) }
         ensures over { self.new.over ≡ (result || self.old.over) }
     {
         let closed = self.line.meter.shared.load::<ReadsEnd>(&mut self.seat, 1);
@@ -206,13 +246,16 @@ impl TakeEnd {
     }
 
     /// Takes the oldest note, and waits for one where the pipe is empty; nothing once the pipe is
-    /// closed and what was put before is taken.
+    /// closed and what was put before is taken: it has read then, in this call, that as many takes as
+    /// puts were over.
     pub fn wait<R: Wait>(&mut self, rt: &R) -> Option<(u64, Note)>
         ensures pipe { self.new.pipe ≡ self.old.pipe }
         ensures got { MatchOption result (self.new.got ≡ self.old.got)
             (λ x. self.new.got ≡ self.old.got ++ x ∷ []) }
         ensures rising { IfSome result (λ x. All (λ y. y.0 < x.0) self.old.got) }
         ensures over { IfNone result (self.new.over ≡ true) }
+        ensures looked { IfNone result (self.old.looks < self.new.looks) }
+        ensures drained { IfNone result (IsDrained self.new) }
     {
         for _ in rt.forever() {
             let moves = self.line.moves(rt);
@@ -241,10 +284,10 @@ pub fn pipe(
         × (ends.0.takers ≡ takers)) }
     ensures takers { IfOk result (λ ends. vec_len ends.1 ≡ takers) }
     ensures each { IfOk result (λ ends.
-        All (λ t. t ≡ record { pipe = ends.0.pipe; got = []; over = false }) ends.1.items) }
+        All (λ t. t ≡ fresh_taker ends.0.pipe) ends.1.items) }
 {
     let (queue, mut pass) = Queue::ruled(alloc, capacity)?;
-    let (meter, mut seat) = Meter::of_words(alloc, &[0, 0], &())?;
+    let (meter, mut seat) = Meter::of_words(alloc, &[0, 0, 0], &())?;
     let line = Arc::new(alloc, Line::new(queue, meter))?;
     let mut ends = Vec::with_capacity(alloc, takers)?;
     for _made in 0..takers {

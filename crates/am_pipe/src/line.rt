@@ -14,12 +14,12 @@ pub struct Line {
     pub meter: Meter,
     moves: Mutex<u64>,
     moved: Condvar,
-    ghost wide: { meter.shared.table_id.words ≡ 2 },
+    ghost wide: { meter.shared.table_id.words ≡ 3 },
 }
 
 impl Line {
     pub fn new(queue: Queue, meter: Meter) -> Line
-        requires { meter.shared.table_id.words ≡ 2 }
+        requires { meter.shared.table_id.words ≡ 3 }
         ensures { (result.queue ≡ queue) × (result.meter ≡ meter) }
     {
         Line {

@@ -1,30 +1,34 @@
-//! The numbers of a pipe that its ends share: how many notes were taken, and whether it is closed.
+//! The numbers of a pipe that its ends share: how many notes were taken, whether it is closed, and how
+//! many notes were put.
 
 use atomic_table::{Play, Seat, Split, Table, TableRule};
 use std::alloc::Global;
 
-/// The numbers of one pipe. The first counts the takes that are over, and the second is 1 once the
-/// pipe is closed.
+/// The numbers of one pipe. The first counts the takes that are over, the second is 1 once the pipe is
+/// closed, and the third counts the puts that are over.
 pub type Meter = Table<(), MeterView, (), Counts, Global>;
 
 /// An end's right to read and count on a meter.
 pub type MeterSeat = Seat<(), MeterView>;
 
-/// What an end knows of the numbers: how many takes it counted, how often it read the count, what
-/// it found there last, and whether it found the pipe closed. Proofs alone speak of it, and no
-/// value of it is made.
+/// What an end knows of the numbers: how many takes and how many puts it counted, how often it looked,
+/// how many puts and how many takes it found over then, and whether it found the pipe closed. The put
+/// end looks at the takes; a take end looks at the puts, and then at the takes. Proofs alone speak of
+/// it, and no value of it is made.
 pub struct MeterView {
     pub took: u64,
+    pub put: u64,
     pub looks: u64,
+    pub seen: u64,
     pub freed: u64,
     pub over: bool,
 }
 
-/// The first number is that of all takes that the ends counted.
+/// The first number is that of all takes that the ends counted, and the third that of all puts.
 pub struct Counts;
 
 impl TableRule<(), MeterView, ()> for Counts {
-    ghost use Rattle.am_pipe.specs.Meter.{IsMeter, meter_view, fresh_view};
+    ghost use Rattle.am_pipe.specs.Meter.{IsMeter, fresh_view};
 
     ghost holds = { λ _ s. IsMeter s };
 
@@ -60,6 +64,36 @@ impl Play<(), MeterView> for CountsTake {
     ghost use Rattle.am_pipe.specs.Meter.{freed_one};
 
     ghost then = { λ st me n me'. me'.0 ≡ freed_one me.0 };
+}
+
+/// The put end counts a put.
+pub struct CountsPut;
+
+impl Play<(), MeterView> for CountsPut {
+    ghost use Rattle.std.specs.Prelude.{◌≡◌};
+    ghost use Rattle.am_pipe.specs.Meter.{put_one};
+
+    ghost then = { λ st me n me'. me'.0 ≡ put_one me.0 };
+}
+
+/// A take end reads how many puts are over, and of takes it has read none yet then.
+pub struct ReadsPuts;
+
+impl Play<(), MeterView> for ReadsPuts {
+    ghost use Rattle.std.specs.Prelude.{◌≡◌};
+    ghost use Rattle.am_pipe.specs.Meter.{asked};
+
+    ghost then = { λ st me n me'. me'.0 ≡ asked me.0 n };
+}
+
+/// Then it reads how many takes are over.
+pub struct ReadsTakes;
+
+impl Play<(), MeterView> for ReadsTakes {
+    ghost use Rattle.std.specs.Prelude.{◌≡◌};
+    ghost use Rattle.am_pipe.specs.Meter.{told};
+
+    ghost then = { λ st me n me'. me'.0 ≡ told me.0 n };
 }
 
 /// A take end reads whether the pipe is closed.

@@ -1,6 +1,7 @@
 //! Who serves: the daemon's workers.
 
 ghost use Rattle.std.specs.Prelude.{◌≡◌, true, IfOk, MatchBool, OnErr, OnOk};
+ghost use Rattle.am_pipe.specs.{IsDrained};
 ghost use Rattle.am_runner.specs.declared.calls.Reply.TheVariants.{Done};
 ghost use Rattle.am_runner.specs.Calls.{Adds, Makes};
 ghost use Rattle.am_runner.specs.Roles.{GivesUp, IsAct, IsActOf, IsBrokenOff, IsEnd, IsGivenUp};
@@ -200,6 +201,7 @@ pub fn daemon_worker<L: Opened, G: Gate, B: Backend, R: Wait>(
 ) -> Result<(), AllocError>
     ensures pipe { taker.new.pipe ≡ taker.old.pipe }
     ensures over { taker.new.over ≡ true }
+    ensures drained { IsDrained taker.new }
     ensures ok { OnOk result (Serves IsService taker.old.got taker.new.got caller.old caller.new) }
     ensures err { OnErr result
         (Serves (IsTried fs) taker.old.got taker.new.got caller.old caller.new) }

@@ -1,5 +1,5 @@
-use Rattle.std.proofs.Common.{◌≡◌, false, [], arith, ap, ◌∙◌, rules}
-use Rattle.am_pipe.specs.{Taker, known, read_by}
+use Rattle.std.proofs.Common.{◌≡◌, [], arith, ap, ◌∙◌, rules}
+use Rattle.am_pipe.specs.{MeterView, Taker, fresh_taker, fresh_view, known, read_by}
 use Rattle.am_pipe.proofs.MeterLemmas.{opens, splits}
 use Rattle.am_pipe.proofs.MoveLemmas.{begins, forks}
 use Rattle.am_pipe.proofs.RestLemmas.{all_snoc}
@@ -24,9 +24,16 @@ loop-made-preserved c =
     let theirs : c.another-other.result.table_id ≡ id = search rules in
     let got = (known c.another-other.result).got in
     let none : got ≡ [] = ap (λ v. v.got) c.another-other.ensures.rule.1 in
-    let over = (read_by c.split_seat-other_seat.result).over in
-    let open_yet : over ≡ false = ap (λ m. (m.0).over) c.split_seat-other_seat.ensures.4 in
-    let new : Taker = record { pipe = c.another-other.result.table_id; got = got; over = over } in record {
+    let read = read_by c.split_seat-other_seat.result in
+    let fresh : read ≡ fresh_view = ap (λ m. m.0) c.split_seat-other_seat.ensures.4 in
+    let new : Taker = record {
+      pipe = c.another-other.result.table_id;
+      got = got;
+      over = read.over;
+      looks = read.looks;
+      seen = read.seen;
+      freed = read.freed;
+    } in record {
       queue = search rules;
       seat = search rules;
       counts = search rules;
@@ -35,8 +42,14 @@ loop-made-preserved c =
       len = search rules;
       fits = search rules;
       each = rw c.push_reserved.ensures.items
-          (all_snoc (λ (t : Taker). t ≡ record { pipe = id; got = []; over = false }) c.loop-made.ends.items new
-          (λ k d lt.
-          c.loop-made.invariant.each k d lt ∙ (λ i. record { pipe = same i; got = []; over = false }))
-          (λ i. record { pipe = theirs i; got = none i; over = open_yet i }));
+          (all_snoc (λ (t : Taker). t ≡ fresh_taker id) c.loop-made.ends.items new
+          (λ k d lt. c.loop-made.invariant.each k d lt ∙ ap fresh_taker same)
+          (λ i. record {
+            pipe = theirs i;
+            got = none i;
+            over = (fresh i).over;
+            looks = (fresh i).looks;
+            seen = (fresh i).seen;
+            freed = (fresh i).freed;
+          }));
     }

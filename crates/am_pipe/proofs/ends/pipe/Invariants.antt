@@ -1,8 +1,8 @@
-use Rattle.std.proofs.Common.{◌≡◌, ◌≤◌, true, false, [], vec_len, All}
+use Rattle.std.proofs.Common.{◌≡◌, ◌≤◌, true, [], vec_len, All}
 use Rattle.std.specs.Prelude.{vec_capacity}
 use Rattle.std.specs.Arc.{arc_value}
 use Rattle.crossbeam_queue.specs.Passes.{IsPassOf, ruled_capacity}
-use Rattle.am_pipe.specs.{end_view, fresh_view, known, read_by}
+use Rattle.am_pipe.specs.{end_view, fresh_taker, fresh_view, known, read_by}
 use Rattle.am_pipe.proofs.ends.pipe.Given as goal
 
 abbrev pub invariant-loop-made : goal.invariant-loop-made
@@ -14,5 +14,5 @@ invariant-loop-made l = record {
   view : known l.pass ≡ end_view true l._made 0 [] [];
   len : vec_len l.ends ≡ l._made;
   fits : l.takers ≤ vec_capacity l.ends;
-  each : All (λ t. t ≡ record { pipe = l.pass.table_id; got = []; over = false }) l.ends.items;
+  each : All (λ t. t ≡ fresh_taker l.pass.table_id) l.ends.items;
 }

@@ -12,5 +12,6 @@ invariant-loop g l = record {
   view : known l.pass ≡ known l.fn.pass;
   seat : l.seat.table_id ≡ l.fn.seat.table_id;
   looks : (read_by l.fn.seat).looks ≤ (read_by l.seat).looks;
+  given : (read_by l.seat).put ≡ (read_by l.fn.seat).put;
   note : l.note ≡ l.fn.note;
 }

@@ -1,4 +1,4 @@
-use Rattle.std.proofs.Common.{◌≡◌}
+use Rattle.std.proofs.Common.{◌≡◌, ◌≤◌}
 use Rattle.am_pipe.proofs.ends.TakeEnd.wait.Given as goal
 
 abbrev pub invariant-loop : goal.invariant-loop
@@ -7,4 +7,5 @@ invariant-loop g l = record {
   finite : (goal.iterator-loop g).is_finite l.iterator';
   pipe : l.self.pipe ≡ l.fn.self.pipe;
   got : l.self.got ≡ l.fn.self.got;
+  looks : l.fn.self.looks ≤ l.self.looks;
 }
