@@ -20,6 +20,7 @@ pub mod Playing
 pub mod Read
 pub mod Reading
 pub mod Script
+pub mod Forms
 pub mod Sections
 pub mod Turns
 pub mod WalkerLines
@@ -38,13 +39,14 @@ pub use Maps.{before_maps, is_named, map_by, maps_read, opening_read, section_fo
 pub use Numbers.{is_numeral, number_read}
 pub use Opened.{HasNoWorld, IsOpened, NoNext, NoRoom, NoRoomFor, NotOpened, OpenedAs}
 pub use Outputs.{IsLost, IsOwed, Owed, Puts, PutsOut, Settles, Stands, StandsBy, StandsOf, bytes_of, line_at, line_of, lost_behind, owed_by, owed_from}
-pub use Played.{BreaksOff, Halts, HaltsAt, HaltsIn, IsPlayed, NothingPlayed, PlaysInput, StopsAtEvent, StopsInput, end_of_head, lines_for}
-pub use Playing.{Answered, Ending, EndsPlayed, EndsStopped, EventsStand, Flushes, HeadStands, HeadStops, HeadTaken, LosesAnswer, PlaceStands, PlayerStands, StopsAtLine, StopsAtLong, StopsInHead, TakesInHead, TakesLine, answers_in, asked_in, behind, owed_for, place_after, script_behind, with_next}
+pub use Played.{BreaksOff, Halts, HaltsAt, HaltsIn, IsPlayed, NothingPlayed, PlaysInput, StopsAtEvent, StopsForRoom, StopsInput, end_of_head}
+pub use Playing.{Ending, EndsPlayed, EndsStopped, EventsStand, Flushes, HeadStands, HeadStops, HeadTaken, LosesAnswer, PlaceStands, PlayerStands, StopsAtLine, StopsAtLong, StopsInHead, TakesInHead, TakesLine, behind, owed_for, place_after, script_behind, with_next}
 pub use Read.{IsReadFault, WasRead, broken, cut_kind, cut_line, last_of, played}
 pub use Reading.{BreaksRead, EndsRead, ReadingStands, StopsInBytes, StopsRead, TakesBytes}
 pub use Script.{IsInHead, Numbered, Told, begun_by, events_from, events_in, head_ends, line_read, only_fault, script_by, script_from, script_of, told_by, without_world}
+pub use Forms.{Form, SeenRun, Shown, answers_alone, answers_in, asked_in, written_of}
 pub use Sections.{Alone, Long, Part, Section, Unended, Whole, are_only, is_end, map_name, part_by, parts_in, parts_of_lines, with_line}
-pub use Turns.{Closes, IsShort, IsWhole, LineAnswered, LineReadAs, SaysEvent, TurnDone, TurnStopped, counted}
+pub use Turns.{Closes, FindsNoRoom, IsAnswered, IsIdle, IsShort, IsWhole, LineAnswered, LineReadAs, SaysEvent, TurnDone, TurnStopped, counted}
 pub use WalkerLines.{expire_read, leave_read, resume_read, walk_read}
 pub use declared.fault.ScriptFault.{ScriptFault}
 pub use declared.fault.ScriptFaultKind.{ScriptFaultKind}
