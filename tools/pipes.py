@@ -8,7 +8,7 @@ usage: tools/pipes.py
 - a line that is sent byte by byte is answered when its line feed was, and lines that are sent together
   are all answered before more is sent;
 - behind a line that is no event, or is too long, at most 4,095 bytes of a file were read;
-- a longer input takes no more memory;
+- a longer input takes no more memory, of `script` and of `trace`;
 - the examples of docs/USING.md in Python and in C print what they say.
 
 The program is the proved one, or else one that is built without proof. The last line counts the checks.
@@ -161,7 +161,7 @@ def reads_little_ahead(program, room, line, word):
     return True
 
 
-def memory_of(program, room, mebibytes):
+def memory_of(program, room, command, mebibytes):
     """The most memory that a script of so many blank lines takes, in KiB."""
     script = os.path.join(room, "blank")
     with open(script, "wb") as file:
@@ -169,14 +169,14 @@ def memory_of(program, room, mebibytes):
         for _ in range(mebibytes):
             file.write((b" " * 63 + b"\n") * (1 << 14))
     with open(script, "rb") as file:
-        child = subprocess.Popen([program, "script"], stdin=file, stdout=subprocess.DEVNULL)
+        child = subprocess.Popen([program, command], stdin=file, stdout=subprocess.DEVNULL)
         _, status, usage = os.wait4(child.pid, 0)
         child.returncode = os.waitstatus_to_exitcode(status)
     return usage.ru_maxrss if child.returncode == 0 else None
 
 
-def takes_no_more_memory(program, room):
-    few, many = memory_of(program, room, 1), memory_of(program, room, 8)
+def takes_no_more_memory(program, room, command):
+    few, many = memory_of(program, room, command, 1), memory_of(program, room, command, 8)
     return few is not None and many is not None and many < few + 1024
 
 
@@ -218,7 +218,8 @@ def checks(program, room):
     yield "lines that are sent together", lambda: answers_all_that_was_sent(program)
     yield "what is read behind a line that is no event", lambda: reads_little_ahead(program, room, b"none", b"BadEvent")
     yield "what is read behind a line that is too long", lambda: reads_little_ahead(program, room, b"#" * 8193, b"LongLine")
-    yield "the memory of a longer input", lambda: takes_no_more_memory(program, room)
+    for command in ("script", "trace"):
+        yield f"the memory of a longer input of {command}", lambda command=command: takes_no_more_memory(program, room, command)
     yield "the example in Python", lambda: python_example(room)
     compiler = next(filter(None, map(shutil.which, ("cc", "gcc", "clang"))), None)
     if compiler is None:

@@ -45,7 +45,8 @@ pub struct AmPlayed {
 /// fault; the answers to all lines above the fault are written.
 #[unsafe(no_mangle)]
 pub extern "C" fn am_play(alloc: Global, script: &[u8], out: &mut [u8], played: &mut AmPlayed) -> u8
-    ensures { Fills (PlaysInput answers_alone) (StopsInput answers_alone) script.now out.old out.new played.new result }
+    ensures { Fills (PlaysInput answers_alone) (StopsInput answers_alone) script.now out.old
+        out.new played.new result }
 {
     let mut reader = script;
     let mut writer = Vec::new(alloc);
@@ -63,7 +64,8 @@ pub extern "C" fn am_trace(
     out: &mut [u8],
     played: &mut AmPlayed,
 ) -> u8
-    ensures { Fills (PlaysInput (traced WithNumbers)) (StopsInput (traced WithNumbers)) script.now out.old out.new played.new result }
+    ensures { Fills (PlaysInput (traced WithNumbers)) (StopsInput (traced WithNumbers)) script.now
+        out.old out.new played.new result }
 {
     let mut reader = script;
     let mut writer = Vec::new(alloc);

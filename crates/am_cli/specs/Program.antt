@@ -132,7 +132,8 @@ asked_of NotVersioned = Version
 -- what the reader recalls of it.
 -- Threads, help and the version read nothing. Nothing is written where threads don't run.
 abbrev pub Leaves : End → Recalled → Option (List ℕ) → Option (List ℕ) → Option (List ℕ) → Option (List ℕ) → Option (List ℕ) → Option (List ℕ) → Type 0
-Leaves (Played summary) recalled input rest old new quiet told = PlaysInput answers_alone input rest old new summary × (told ≡ quiet)
+Leaves (Played summary) recalled input rest old new quiet told =
+    PlaysInput answers_alone input rest old new summary × (told ≡ quiet)
 Leaves (Stopped fault) recalled input rest old new quiet told =
     StopsInput answers_alone input rest old new fault × TellsFault recalled fault quiet told
 Leaves (Traced plain summary) recalled input rest old new quiet told =

@@ -31,8 +31,8 @@ SeenRun old (row ∷ rows) new =
 
 -- ---- what is written
 
--- how a script is played: what is written of each event, and whether the script ends at an event that
--- can't be read as there is no memory for it; else that is answered as refused
+-- how a script is played: what is written of each event, and whether an event that finds no memory
+-- before it is played ends the script, or else is answered as refused
 pub record Form : Type 0 where
   pub text : Shown → List ℕ
   pub ends : Bool
@@ -41,6 +41,6 @@ pub record Form : Type 0 where
 abbrev pub written_of : Form → List Shown → List ℕ
 written_of form rows = flat_map form.text rows
 
--- of each event the line of its answer, and every event is answered
+-- of each event the line of its answer is written, and every event is answered
 abbrev pub answers_alone : Form
 answers_alone = record { text = λ row. answer_line row.answer; ends = false }

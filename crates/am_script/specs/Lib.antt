@@ -4,6 +4,7 @@ pub mod DaemonLines
 pub mod EventWords
 pub mod Events
 pub mod Fault
+pub mod Forms
 pub mod Head
 pub mod HeadLeft
 pub mod Heading
@@ -20,7 +21,6 @@ pub mod Playing
 pub mod Read
 pub mod Reading
 pub mod Script
-pub mod Forms
 pub mod Sections
 pub mod Turns
 pub mod WalkerLines
@@ -29,6 +29,7 @@ pub use AdministratorLines.{admincat_read, bind_read, change_line_read, kind_rea
 pub use Answers.{answer_line, answer_text, entry_text, is_refused, mounts_text, place_text}
 pub use DaemonLines.{attach_read, catatonic_read, reattach_read, record_read, repeat_read, timeout_read}
 pub use Fault.{IsFaultOr, fault_at}
+pub use Forms.{Form, SeenRun, Shown, answers_alone, answers_in, asked_in, written_of}
 pub use Head.{Begins, Ends, Faulty, Headed, bad_section, head_of, is_limits, is_negative, limits_by, master_by, negative_by, negative_then, section_read, too_long, with_negative}
 pub use HeadLeft.{IsLeft, head_left, left_in, section_then, stage_then}
 pub use Heading.{EventsBegin, GoesOn, HeadFault, HeadSoFar, StopsAt, Taken, after_events, after_limits, after_line, after_lone_line, after_negative, after_short_line, after_words, closed, first_open, mastered, may_open, no_lines, taken_as}
@@ -44,7 +45,6 @@ pub use Playing.{Ending, EndsPlayed, EndsStopped, EventsStand, Flushes, HeadStan
 pub use Read.{IsReadFault, WasRead, broken, cut_kind, cut_line, last_of, played}
 pub use Reading.{BreaksRead, EndsRead, ReadingStands, StopsInBytes, StopsRead, TakesBytes}
 pub use Script.{IsInHead, Numbered, Told, begun_by, events_from, events_in, head_ends, line_read, only_fault, script_by, script_from, script_of, told_by, without_world}
-pub use Forms.{Form, SeenRun, Shown, answers_alone, answers_in, asked_in, written_of}
 pub use Sections.{Alone, Long, Part, Section, Unended, Whole, are_only, is_end, map_name, part_by, parts_in, parts_of_lines, with_line}
 pub use Turns.{Closes, FindsNoRoom, IsAnswered, IsIdle, IsShort, IsWhole, LineAnswered, LineReadAs, SaysEvent, TurnDone, TurnStopped, counted}
 pub use WalkerLines.{expire_read, leave_read, resume_read, walk_read}

@@ -18,7 +18,8 @@ use Rattle.am_script.specs.Forms.{Shown, Form, SeenRun, asked_in, answers_in, wr
 -- ---- a script with a world
 
 -- all events come, and nothing but what is written of them is written
-pub record AllPlayed (form : Form) (start : State) (told : Told) (old new : Option (List ℕ)) (summary : Summary) : Type 0 where
+pub record AllPlayed (form : Form) (start : State) (told : Told) (old new : Option (List ℕ))
+    (summary : Summary) : Type 0 where
   pub no_fault : told.fault ≡ None
   pub rows : List Shown
   pub asked : told.events ≡ asked_in rows
@@ -29,7 +30,8 @@ pub record AllPlayed (form : Form) (start : State) (told : Told) (old new : Opti
   pub refused : summary.refused ≡ count_by is_refused (answers_in rows)
 
 -- the script's own fault comes behind its events, of which all is written
-pub record StopsAtFault (form : Form) (start : State) (told : Told) (old new : Option (List ℕ)) (fault : ScriptFault) : Type 0 where
+pub record StopsAtFault (form : Form) (start : State) (told : Told) (old new : Option (List ℕ))
+    (fault : ScriptFault) : Type 0 where
   pub found : told.fault ≡ Some fault
   pub rows : List Shown
   pub asked : told.events ≡ asked_in rows
@@ -38,7 +40,8 @@ pub record StopsAtFault (form : Form) (start : State) (told : Told) (old new : O
   pub written : Appends old new (written_of form rows)
 
 -- what is written of an event isn't taken whole, but for a beginning; all before it is written
-pub record StopsAtEvent (form : Form) (start : State) (told : Told) (old new : Option (List ℕ)) (fault : ScriptFault) : Type 0 where
+pub record StopsAtEvent (form : Form) (start : State) (told : Told) (old new : Option (List ℕ))
+    (fault : ScriptFault) : Type 0 where
   pub loss : fault.kind ≡ WriteFailed
   pub done : List Shown
   pub here : Shown
@@ -52,7 +55,8 @@ pub record StopsAtEvent (form : Form) (start : State) (told : Told) (old new : O
   pub written : Appends old new (written_of form done ++ take taken (form.text here))
 
 -- there is no memory for an event of a script that ends there; all before it is written
-pub record StopsForRoom (form : Form) (start : State) (told : Told) (old new : Option (List ℕ)) (fault : ScriptFault) : Type 0 where
+pub record StopsForRoom (form : Form) (start : State) (told : Told) (old new : Option (List ℕ))
+    (fault : ScriptFault) : Type 0 where
   pub ends : form.ends ≡ true
   pub kind : fault.kind ≡ NoMemory
   pub rows : List Shown
@@ -129,7 +133,8 @@ HaltsAt None fault last = ⊤
 HaltsAt (Some opening) fault last = (fault.kind ≡ WriteFailed) ⊎ (fault.line ≡ last)
 
 -- the script, of which so many lines were played, stops there
-pub record HaltsIn (form : Form) (script : Script) (last : ℕ) (old new : Option (List ℕ)) (fault : ScriptFault) : Type 0 where
+pub record HaltsIn (form : Form) (script : Script) (last : ℕ) (old new : Option (List ℕ))
+    (fault : ScriptFault) : Type 0 where
   pub stopped : IsStopped form last script old new fault
   pub here : HaltsAt script.opening fault last
 
@@ -148,7 +153,8 @@ pub record Halts (form : Form) (text : List ℕ) (old new : Option (List ℕ)) (
   pub halts : (more : List ℕ) → HaltsIn form (script_of None (text ++ more)) (length (lines_of upto)) old new fault
 
 -- the input was read to its end, and the script stops behind that, or at the line that it ends with
-pub record StopsAtEnd (form : Form) (rest : Option (List ℕ)) (text : List ℕ) (old new : Option (List ℕ)) (fault : ScriptFault) : Type 0 where
+pub record StopsAtEnd (form : Form) (rest : Option (List ℕ)) (text : List ℕ) (old new : Option (List ℕ))
+    (fault : ScriptFault) : Type 0 where
   pub ended : IsAtEnd rest
   pub stopped : HaltsIn form (script_of None text) (length (lines_of text)) old new fault
 
@@ -162,7 +168,9 @@ BreaksOff form text old new fault =
 pub record StopsInput (form : Form) (input rest old new : Option (List ℕ)) (fault : ScriptFault) : Type 0 where
   pub text : List ℕ
   pub read : Consumes input rest text
-  pub stops : StopsAtEnd form rest text old new fault ⊎ (BreaksOff form text old new fault ⊎ Halts form text old new fault)
+  pub stops :
+      StopsAtEnd form rest text old new fault
+      ⊎ (BreaksOff form text old new fault ⊎ Halts form text old new fault)
 
 -- ---- the end of a head
 

@@ -61,7 +61,8 @@ pub record HeadStands (heading : HeadSoFar) (number : ℕ) (summary : Summary) (
   pub refused : summary.refused ≡ 0
 
 -- these lines were taken, and the events among them have come; what is written of them is put out
-pub record EventsStand (form : Form) (state : State) (number : ℕ) (summary : Summary) (output : Output) (front : List (List ℕ)) (start now : Option (List ℕ)) : Type 0 where
+pub record EventsStand (form : Form) (state : State) (number : ℕ) (summary : Summary) (output : Output)
+    (front : List (List ℕ)) (start now : Option (List ℕ)) : Type 0 where
   pub counted : length front ≡ number
   pub opening : Setup
   pub events_at : ℕ
@@ -77,7 +78,8 @@ pub record EventsStand (form : Form) (state : State) (number : ℕ) (summary : S
   pub refused : summary.refused ≡ count_by is_refused (answers_in rows)
 
 -- the lines were taken as those of a head, or its events have come
-abbrev pub PlaceStands : Form → Place → ℕ → Summary → Output → List (List ℕ) → Option (List ℕ) → Option (List ℕ) → Type 0
+abbrev pub PlaceStands :
+    Form → Place → ℕ → Summary → Output → List (List ℕ) → Option (List ℕ) → Option (List ℕ) → Type 0
 PlaceStands form (places.Head heading) number summary output front start now =
     HeadStands heading number summary output front start now
 PlaceStands form (places.Events world) number summary output front start now =
@@ -130,7 +132,8 @@ TakesLine form old new line held holds =
 abbrev pub StopsAtLine : Form → Player → List ℕ → Option (List ℕ) → Option (List ℕ) → ScriptFault → Type 0
 StopsAtLine form player line held holds fault =
     (front : List (List ℕ)) → (start : Option (List ℕ)) → PlayerStands form player front start held
-    → (ending : Ending) → HaltsIn form (script_behind front (with_next line ending)) (length front + 1) start holds fault
+    → (ending : Ending)
+    → HaltsIn form (script_behind front (with_next line ending)) (length front + 1) start holds fault
 
 -- the script stops at any line that is too long
 abbrev pub StopsAtLong : Player → Option (List ℕ) → Option (List ℕ) → ScriptFault → Type 0
@@ -142,7 +145,8 @@ StopsAtLong player held holds fault =
 -- no line is played, but what is kept is written
 abbrev pub Flushes : Player → Player → Option (List ℕ) → Option (List ℕ) → Type 0
 Flushes old new held holds =
-    (form : Form) → (front : List (List ℕ)) → (start : Option (List ℕ)) → PlayerStands form old front start held → PlayerStands form new front start holds
+    (form : Form) → (front : List (List ℕ)) → (start : Option (List ℕ)) → PlayerStands form old front start held
+    → PlayerStands form new front start holds
 
 -- what is kept isn't written whole, so the script stops, whatever follows
 abbrev pub LosesAnswer : Player → Option (List ℕ) → Option (List ℕ) → ScriptFault → Type 0

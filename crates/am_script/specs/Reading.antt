@@ -23,12 +23,14 @@ pub record ReadingStands (form : Form) (reading : Reading) (text : List ℕ) (st
 -- these bytes are played, whatever was read before
 abbrev pub TakesBytes : Form → Reading → Reading → List ℕ → Option (List ℕ) → Option (List ℕ) → Type 0
 TakesBytes form old new bytes held holds =
-    (text : List ℕ) → (start : Option (List ℕ)) → ReadingStands form old text start held → ReadingStands form new (text ++ bytes) start holds
+    (text : List ℕ) → (start : Option (List ℕ)) → ReadingStands form old text start held
+    → ReadingStands form new (text ++ bytes) start holds
 
 -- the script stops among these bytes, whatever was read before
 abbrev pub StopsInBytes : Form → Reading → List ℕ → Option (List ℕ) → Option (List ℕ) → ScriptFault → Type 0
 StopsInBytes form old bytes held holds fault =
-    (text : List ℕ) → (start : Option (List ℕ)) → ReadingStands form old text start held → Halts form (text ++ bytes) start holds fault
+    (text : List ℕ) → (start : Option (List ℕ)) → ReadingStands form old text start held
+    → Halts form (text ++ bytes) start holds fault
 
 -- ---- no byte follows
 

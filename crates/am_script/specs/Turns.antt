@@ -34,7 +34,8 @@ LineAnswered s (Err kind) next (Err fault) = (next ≡ s) × (fault ≡ kind)
 LineAnswered s said next answer = ⊥
 
 -- the event comes, and what is written of it is put out
-pub record IsAnswered (form : Form) (s : State) (event : Event) (next : State) (number : ℕ) (kept keeps : Output) (old new : Option (List ℕ)) (refused : Bool) : Type 0 where
+pub record IsAnswered (form : Form) (s : State) (event : Event) (next : State) (number : ℕ)
+    (kept keeps : Output) (old new : Option (List ℕ)) (refused : Bool) : Type 0 where
   pub answer : Answer
   pub seen : List Obs
   pub step : Step s event answer seen next
@@ -52,7 +53,9 @@ pub record IsIdle (s next : State) (kept keeps : Output) (old new : Option (List
   pub settles : Settles kept keeps old new
 
 -- what a line says is done, and whether its event was refused
-abbrev pub TurnDone : Form → State → Result (Option Event) ScriptFaultKind → State → ℕ → Output → Output → Option (List ℕ) → Option (List ℕ) → Option Bool → Type 0
+abbrev pub TurnDone :
+    Form → State → Result (Option Event) ScriptFaultKind → State → ℕ → Output → Output → Option (List ℕ)
+    → Option (List ℕ) → Option Bool → Type 0
 TurnDone form s (Ok None) next number kept keeps old new None = IsIdle s next kept keeps old new
 TurnDone form s (Ok None) next number kept keeps old new (Some refused) = ⊥
 TurnDone form s (Ok (Some event)) next number kept keeps old new None = ⊥
@@ -61,13 +64,16 @@ TurnDone form s (Ok (Some event)) next number kept keeps old new (Some refused) 
 TurnDone form s (Err kind) next number kept keeps old new played = ⊥
 
 -- there is no memory for the event, which ends the script
-pub record FindsNoRoom (form : Form) (s next : State) (kept keeps : Output) (old new : Option (List ℕ)) (kind : ScriptFaultKind) : Type 0 where
+pub record FindsNoRoom (form : Form) (s next : State) (kept keeps : Output) (old new : Option (List ℕ))
+    (kind : ScriptFaultKind) : Type 0 where
   pub ends : form.ends ≡ true
   pub idle : IsIdle s next kept keeps old new
   pub told : kind ≡ NoMemory
 
 -- the line has a fault, or there is no memory for its event
-abbrev pub TurnStopped : Form → State → Result (Option Event) ScriptFaultKind → State → Output → Output → Option (List ℕ) → Option (List ℕ) → ScriptFaultKind → Type 0
+abbrev pub TurnStopped :
+    Form → State → Result (Option Event) ScriptFaultKind → State → Output → Output → Option (List ℕ)
+    → Option (List ℕ) → ScriptFaultKind → Type 0
 TurnStopped form s (Ok None) next kept keeps old new kind = ⊥
 TurnStopped form s (Ok (Some event)) next kept keeps old new kind = FindsNoRoom form s next kept keeps old new kind
 TurnStopped form s (Err fault) next kept keeps old new kind = IsIdle s next kept keeps old new × (kind ≡ fault)
