@@ -27,6 +27,11 @@ def of_program():
     return found
 
 
+def without_value():
+    """The options of the program that have no value."""
+    return set(re.findall(r'\bflag\(alloc, "(\w+)"', text_of(COMMANDS)))
+
+
 def of_manual():
     """Those of its synopsis."""
     plain = text_of(MANUAL).replace("\\-", "-").partition(".SH SYNOPSIS\n")[2].partition(".SH ")[0]
