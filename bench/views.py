@@ -57,7 +57,8 @@ def answers_in(view, output):
     if view == "script":
         return output
     if view == "trace":
-        return b"".join(line[2:] for line in output.splitlines(True) if line.startswith(b"= "))
+        told = (line for line in output.splitlines() if line.startswith(b"= "))
+        return b"".join(line[2:].rpartition(b" : ")[0] + b"\n" for line in told)
     return None
 
 

@@ -9,6 +9,7 @@ _automount_cli() {
         compopt +o default 2> /dev/null
     elif [[ $before != [\<\>]* ]]; then
         case ${COMP_WORDS[1]} in
+            trace) words="--plain" ;;
             draw) words="--from --to" ;;
             world) words="--namespace" ;;
             threads) words="--walkers --workers --rounds" ;;

@@ -10,6 +10,7 @@ complete -c automount_cli -n __fish_use_subcommand -f -a help -d 'Write what the
 complete -c automount_cli -n __fish_use_subcommand -s h -l help -d 'Write what the program does'
 complete -c automount_cli -n __fish_use_subcommand -s V -l version -d 'Write the version'
 complete -c automount_cli -n '__fish_seen_subcommand_from help' -f -a 'script trace draw world judge import threads'
+complete -c automount_cli -n '__fish_seen_subcommand_from trace' -l plain -d 'Leave out the numbers of lines'
 complete -c automount_cli -n '__fish_seen_subcommand_from draw' -l from -x -d 'The first event, from 1'
 complete -c automount_cli -n '__fish_seen_subcommand_from draw' -l to -x -d 'The last event, from 1'
 complete -c automount_cli -n '__fish_seen_subcommand_from world' -l namespace -x -d 'The mounts of one namespace alone'

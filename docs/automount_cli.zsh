@@ -20,6 +20,7 @@ _automount_cli() {
         command) _describe command commands ;;
         word)
             case $words[1] in
+                trace) _arguments '--plain[leave out the numbers of lines]' ;;
                 draw) _arguments '--from[the first event, from 1]:number: ' '--to[the last event, from 1]:number: ' ;;
                 world) _arguments '--namespace[the mounts of one namespace alone]:number: ' ;;
                 threads) _arguments '--walkers[1 to 16]:number: ' '--workers[1 to 16]:number: ' \

@@ -31,7 +31,8 @@ import places  # noqa: E402
 
 PATIENCE = 60
 # What stands below the first line of a command line that is none, and before it what may be meant by it.
-COMMAND_LINES_THERE_ARE = b"""usage: automount_cli script|trace|judge|import < FILE
+COMMAND_LINES_THERE_ARE = b"""usage: automount_cli script|judge|import < FILE
+       automount_cli trace [--plain] < FILE
        automount_cli draw [--from N] [--to N] < FILE
        automount_cli world [--namespace N] < FILE
        automount_cli threads [--walkers N] [--workers N] [--rounds N]
@@ -74,7 +75,7 @@ LAWFUL = b"  entered 7 mount 2\n  left 7 mount 2\n  unmounted 2\n"
 BROKEN = b"3: leave 7\n  waits 7 token 1"
 # What `script` and `trace` say of the two events of SHORT.
 ANSWERS = ((b"mount 2\n", b"err 10\n"), (b"err 5\n",))
-TRACES = ((b"2: mount 0 /a\n= mount 2\n  mounted 2\n", b"2: mount 0 /a\n= err 10\n"), (b"3: leave 1\n= err 5\n",))
+TRACES = ((b"2: mount 0 /a\n= mount 2 : 1\n  mounted 2\n", b"2: mount 0 /a\n= err 10 : 0\n"), (b"3: leave 1\n= err 5 : 0\n",))
 
 
 def fault(line, word):
@@ -245,20 +246,24 @@ FAULTS = [
     *((["script"], b"events\n" + line + b"\n", b"", fault(2, b"BadEvent") + below) for line, below in CUT),
     # A section that may not stand there: its end may follow, but where all is read.
     (["script"], b"map m\nend\nmaster\n", b"", placed(3, b"BadSection", b"master", 1, IN_ORDER)),
-    (["trace"], b"map m\nend\nmaster\n", b"", placed(3, b"BadSection", b"master", 1, THE_END)),
+    (["trace"], b"map m\nend\nmaster\n", b"", placed(3, b"BadSection", b"master", 1, IN_ORDER)),
+    (["draw"], b"map m\nend\nmaster\n", b"", placed(3, b"BadSection", b"master", 1, THE_END)),
     (["script"], b"map m\nend\nmaster\n" + LONG + b"end\n", b"", placed(3, b"BadSection", b"master", 1, IN_ORDER)),
     (["script"], b"map m\n" + LONG, b"", fault(1, b"BadSection")),
     (["script"], b"events\n" + LONG + b"x y\n" + LONG, b"", placed(10502, b"BadEvent", b"x y", 1, AN_EVENT)),
     (["script"], b"events\nx\n" + LONG, b"", placed(2, b"BadEvent", b"x", 1, AN_EVENT)),
-    (["trace"], b"events\n" + LONG + b"x y\n" + MANY, b"", placed(10502, b"BadEvent", b"x y", 1, AN_EVENT)),
-    (["trace"], b"events\nx\n" + LONG, b"", fault(2, b"BadEvent")),
-    (["trace"], b"events\nx\n" + MANY * 10000, b"", placed(2, b"BadEvent", b"x", 1, AN_EVENT)),
+    (["trace"], b"events\n" + LONG + b"x y\n" + LONG, b"", placed(10502, b"BadEvent", b"x y", 1, AN_EVENT)),
+    (["trace"], b"events\nx\n" + LONG, b"", placed(2, b"BadEvent", b"x", 1, AN_EVENT)),
+    (["draw"], b"events\n" + LONG + b"x y\n" + MANY, b"", placed(10502, b"BadEvent", b"x y", 1, AN_EVENT)),
+    (["draw"], b"events\nx\n" + LONG, b"", fault(2, b"BadEvent")),
+    (["draw"], b"events\nx\n" + MANY * 10000, b"", placed(2, b"BadEvent", b"x", 1, AN_EVENT)),
 ]
 COMMAND_LINES = [
     (["script"], b"# nothing\n", (0, b"", b"")),
     (["script"], SHORT + b"x\n", (1, b"mount 2\nerr 5\n", placed(4, b"BadEvent", b"x", 1, AN_EVENT))),
     *((words, given, (1, wrote, said)) for words, given, wrote, said in FAULTS),
-    (["trace"], b"events\nmount 0 /a\\b\n", (0, b"2: mount 0 /a\\b\n= mount 2\n  mounted 2\n", b"")),
+    (["trace"], b"events\nmount 0 /a\\b\n", (0, b"2: mount 0 /a\\b\n= mount 2 : 1\n  mounted 2\n", b"")),
+    (["trace", "--plain"], SHORT, (0, b": mount 0 /a\n= mount 2 : 1\n  mounted 2\n: leave 1\n= err 5 : 0\n", b"")),
     (["world"], A_WORLD, (0, WORLD, b"")),
     (["world", "--namespace", "0"], A_WORLD, (0, NAMESPACES[0], b"")),
     (["world", "--namespace", "1"], A_WORLD, (0, NAMESPACES[1], b"")),
@@ -299,8 +304,8 @@ MUTE = ((["script"], SHORT + b"x\n"), (["trace"], b"events\nx\n"), (["judge"], b
         (["x"], b""), ([], b""))
 # What is shown, how many bytes are taken at once and how many in all, and the line at which the loss is told, if it is at one.
 LOSSES = [
-    ("trace", SHORT, 100, 0, 2), ("trace", SHORT, 7, 1, 2), ("trace", SHORT, 100, 35, 2), ("trace", SHORT, 7, 36, 3),
-    ("trace", SHORT, 1, 40, 3), ("draw", SHORT, 100, 0, 2), ("draw", SHORT, 1, 1, 2), ("draw", SHORT, 100, 6000, 2),
+    ("trace", SHORT, 100, 0, 2), ("trace", SHORT, 7, 1, 2), ("trace", SHORT, 100, 39, 2), ("trace", SHORT, 7, 40, 3),
+    ("trace", SHORT, 1, 44, 3), ("draw", SHORT, 100, 0, 2), ("draw", SHORT, 1, 1, 2), ("draw", SHORT, 100, 6000, 2),
     ("script", SHORT, 100, 0, 2), ("script", SHORT, 1, 8, 3),
     ("help", b"", 5000, 0, None), ("help", b"", 100, 250, None), ("help", b"", 1, 1000, None),
     ("--version", b"", 100, 0, None), ("--version", b"", 7, 15, None),

@@ -46,7 +46,7 @@ read_back() {
 # What is played from a trace has the answers that stand in it.
 expect_read_back() {
     read_back "$2" > "$room/back"
-    sed -n 's/^= //p' "$room/trace" > "$room/answers"
+    sed -n 's/^= \(.*\) : [0-9]*$/\1/p' "$room/trace" > "$room/answers"
     play script "$room/back"
     expect "$1, its trace read back" "$room/script" "$room/answers"
 }

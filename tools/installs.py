@@ -93,7 +93,8 @@ def takes(program):
         # A command without its options reads an empty input; of threads there are few.
         yield f"{name} is a command", ran(program, name, given="").returncode == 0
         for option in options:
-            status = ran(program, name, f"--{option}", "1", given="").returncode
+            value = [] if option in offers.without_value() else ["1"]
+            status = ran(program, name, f"--{option}", *value, given="").returncode
             yield f"{name} --{option}", status == (0 if option in own else 2)
 
 

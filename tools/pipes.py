@@ -3,11 +3,12 @@
 
 usage: tools/pipes.py
 
-- each script of `examples` is played event by event, each sent when the answer to the one before came;
+- each script of `examples` is played event by event, each sent when the answer to the one before came; and so by
+  `trace`, each sent when what is seen of the one before stood there, by the count in the line of its answer;
 - a line that is sent byte by byte is answered when its line feed was, and lines that are sent together
   are all answered before more is sent;
 - behind a line that is no event, or is too long, at most 4,095 bytes of a file were read;
-- a longer input takes no more memory;
+- a longer input takes no more memory, of `script` and of `trace`;
 - the examples of docs/USING.md in Python and in C print what they say.
 
 The program is the proved one, or else one that is built without proof. The last line counts the checks.
@@ -34,8 +35,8 @@ class Silence(Exception):
 class Play:
     """A program that plays a script, at the other end of two pipes."""
 
-    def __init__(self, program):
-        self.child = subprocess.Popen([program, "script"], stdin=subprocess.PIPE, stdout=subprocess.PIPE, bufsize=0)
+    def __init__(self, program, command="script"):
+        self.child = subprocess.Popen([program, command], stdin=subprocess.PIPE, stdout=subprocess.PIPE, bufsize=0)
         self.read = b""
 
     def __enter__(self):
@@ -64,6 +65,11 @@ class Play:
             self.read += more
         line, self.read = self.read.split(b"\n", 1)
         return line + b"\n"
+
+    def block(self):
+        """Waits for the lines of an event in a trace."""
+        asked, told = self.answer(), self.answer()
+        return asked + told + b"".join(self.answer() for _ in range(int(told.rpartition(b" : ")[2])))
 
     def end(self):
         """Ends the script, and tells whether the program says no more and has nothing to tell."""
@@ -97,6 +103,22 @@ def plays_in_turn(program, path):
             if is_event(line):
                 answers += play.answer()
         return play.end() and answers == expected
+
+
+def traces_in_turn(program, path):
+    """Whether what is seen of each event of a script stands in the trace before the next is sent."""
+    with open(path, "rb") as file:
+        head, lines = parted(file.read())
+    with open(path.replace(".script", ".trace"), "rb") as file:
+        expected = file.read()
+    traced = b""
+    with Play(program, "trace") as play:
+        play.send(head)
+        for line in lines:
+            play.send(line)
+            if is_event(line):
+                traced += play.block()
+        return play.end() and traced == expected
 
 
 def answers_at_the_line_feed(program):
@@ -139,7 +161,7 @@ def reads_little_ahead(program, room, line, word):
     return True
 
 
-def memory_of(program, room, mebibytes):
+def memory_of(program, room, command, mebibytes):
     """The most memory that a script of so many blank lines takes, in KiB."""
     script = os.path.join(room, "blank")
     with open(script, "wb") as file:
@@ -147,14 +169,14 @@ def memory_of(program, room, mebibytes):
         for _ in range(mebibytes):
             file.write((b" " * 63 + b"\n") * (1 << 14))
     with open(script, "rb") as file:
-        child = subprocess.Popen([program, "script"], stdin=file, stdout=subprocess.DEVNULL)
+        child = subprocess.Popen([program, command], stdin=file, stdout=subprocess.DEVNULL)
         _, status, usage = os.wait4(child.pid, 0)
         child.returncode = os.waitstatus_to_exitcode(status)
     return usage.ru_maxrss if child.returncode == 0 else None
 
 
-def takes_no_more_memory(program, room):
-    few, many = memory_of(program, room, 1), memory_of(program, room, 8)
+def takes_no_more_memory(program, room, command):
+    few, many = memory_of(program, room, command, 1), memory_of(program, room, command, 8)
     return few is not None and many is not None and many < few + 1024
 
 
@@ -191,11 +213,13 @@ def checks(program, room):
     """Each check, by its name."""
     for path in sorted(glob.glob("examples/*.script")):
         yield f"{path}, event by event", lambda path=path: plays_in_turn(program, path)
+        yield f"{path}, its trace", lambda path=path: traces_in_turn(program, path)
     yield "a line that is sent byte by byte", lambda: answers_at_the_line_feed(program)
     yield "lines that are sent together", lambda: answers_all_that_was_sent(program)
     yield "what is read behind a line that is no event", lambda: reads_little_ahead(program, room, b"none", b"BadEvent")
     yield "what is read behind a line that is too long", lambda: reads_little_ahead(program, room, b"#" * 8193, b"LongLine")
-    yield "the memory of a longer input", lambda: takes_no_more_memory(program, room)
+    for command in ("script", "trace"):
+        yield f"the memory of a longer input of {command}", lambda command=command: takes_no_more_memory(program, room, command)
     yield "the example in Python", lambda: python_example(room)
     compiler = next(filter(None, map(shutil.which, ("cc", "gcc", "clang"))), None)
     if compiler is None:

@@ -138,7 +138,7 @@ def plays_by_trace(example):
     """The answers stand in the trace, and the laws hold of it."""
     status, wrote, said = program().run(["trace"], example.script)
     lines = wrote.split(b"\n")
-    answers = b"".join(it[2:] + b"\n" for it in lines if it.startswith(b"= "))
+    answers = b"".join(it[2:].rpartition(b" : ")[0] + b"\n" for it in lines if it.startswith(b"= "))
     compared("by its trace", example, status, answers, said)
     found = laws.breaches(laws.observations(wrote.decode("utf-8", "surrogateescape")))
     if found:

@@ -78,7 +78,7 @@ def steps_of(trace):
         if line.startswith(" "):
             steps[-1].seen.append(laws.seen_in(line))
         elif line.startswith("= "):
-            steps[-1].answer = line[2:]
+            steps[-1].answer = line[2:].rpartition(" : ")[0]
         else:
             steps.append(Step(line.partition(": ")[2]))
     return steps

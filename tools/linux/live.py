@@ -426,7 +426,7 @@ class Model:
         self.events, self.answers, self.seen, self.lines = [], [], [], []
         for line in self.run("trace", self.script).splitlines():
             if line.startswith("= "):
-                self.answers.append(line[2:])
+                self.answers.append(line[2:].rpartition(" : ")[0])
             elif line.startswith("  "):
                 self.seen[-1].append(line.strip())
             else:

@@ -239,7 +239,8 @@ def record(program, path):
             if missing:
                 raise live.Unfit(f"{event}: {missing}, which can't be played")
             ours, theirs, why = play.see(at)
-            print("\n".join([f"{model.lines[at]}: {event}", f"= {theirs}", *(f"  {it}" for it in play.lines)]), flush=True)
+            told = [f"{model.lines[at]}: {event}", f"= {theirs} : {len(play.lines)}", *(f"  {it}" for it in play.lines)]
+            print("\n".join(told), flush=True)
             if ours != theirs or why:
                 name = live.Difference(play, at, ours, theirs, why).name()
                 print(f"record: {event}: the model says {ours}, and the kernel {theirs}{'; ' + why if why else ''}; "

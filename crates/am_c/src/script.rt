@@ -3,8 +3,9 @@
 ghost use Rattle.std.specs.Prelude.{◌≡◌, ℕ, List, length, Some};
 ghost use Rattle.am_draw.specs.{DrawsInput, StopsDrawing};
 ghost use Rattle.am_mountinfo.specs.{ShowsInput, StopsShowing};
-ghost use Rattle.am_script.specs.{PlaysInput, StopsInput};
-ghost use Rattle.am_views.specs.{TracesInput, StopsTrace};
+ghost use Rattle.am_script.specs.{PlaysInput, StopsInput, answers_alone};
+ghost use Rattle.am_views.specs.{traced};
+ghost use Rattle.am_views.specs.declared.trace.TraceStyle.TheVariants.{WithNumbers};
 ghost use Rattle.am_c.specs.Buffer.{with_front};
 ghost use Rattle.am_c.specs.Scripts.{AreWordsOf, Fills, IsPlaced, IsTold, detail_number, fault_number, namespace_where, played_of};
 
@@ -15,7 +16,7 @@ use am_draw::draw_script;
 use am_mountinfo::world_script;
 use am_names::NsId;
 use am_script::{ScriptFault, ScriptFaultKind, Summary, run_script};
-use am_views::trace_script;
+use am_views::{TraceStyle, trace_script};
 use std::alloc::Global;
 
 /// How a script went.
@@ -44,7 +45,8 @@ pub struct AmPlayed {
 /// fault; the answers to all lines above the fault are written.
 #[unsafe(no_mangle)]
 pub extern "C" fn am_play(alloc: Global, script: &[u8], out: &mut [u8], played: &mut AmPlayed) -> u8
-    ensures { Fills PlaysInput StopsInput script.now out.old out.new played.new result }
+    ensures { Fills (PlaysInput answers_alone) (StopsInput answers_alone) script.now out.old
+        out.new played.new result }
 {
     let mut reader = script;
     let mut writer = Vec::new(alloc);
@@ -62,11 +64,12 @@ pub extern "C" fn am_trace(
     out: &mut [u8],
     played: &mut AmPlayed,
 ) -> u8
-    ensures { Fills TracesInput StopsTrace script.now out.old out.new played.new result }
+    ensures { Fills (PlaysInput (traced WithNumbers)) (StopsInput (traced WithNumbers)) script.now
+        out.old out.new played.new result }
 {
     let mut reader = script;
     let mut writer = Vec::new(alloc);
-    let went = trace_script(alloc, &mut reader, &mut writer);
+    let went = trace_script(alloc, TraceStyle::WithNumbers, &mut reader, &mut writer);
     *played = tell(alloc, script, &writer, went, out);
     drop(writer);
     fault_number(went)

@@ -5,9 +5,9 @@ use Rattle.clap.specs.Words.{IsAmong, Row, Text, fault_of, first_of, is_simple_a
 use Rattle.clap.specs.declared.error.kind.ErrorKind.{ErrorKind}
 use Rattle.clap.specs.declared.error.kind.ErrorKind.TheVariants as answers
 use Rattle.am_cli.specs.Args.{IsInRange, IsNumberUpTo, IsUpTo}
-use Rattle.am_cli.specs.CommandLine.{AnswersBy, Asks, AsksFor, AsksForNone, AsksNothing, IsAsked, IsNumber, IsNumberIn, IsRefused, IsRefusedBy, cli, helped}
+use Rattle.am_cli.specs.CommandLine.{AnswersBy, Asks, AsksFor, AsksForNone, AsksNothing, IsAsked, IsNumber, IsNumberIn, IsRefused, IsRefusedBy, cli, flagged, helped}
 use Rattle.am_cli.specs.declared.args.Args.{Args}
-use Rattle.am_cli.specs.declared.args.Args.TheVariants.{Draw, World, Threads, Help, Version}
+use Rattle.am_cli.specs.declared.args.Args.TheVariants.{Trace, Draw, World, Threads, Help, Version}
 use Rattle.am_cli.specs.declared.args.ArgsFault.{ArgsFault}
 use Rattle.am_cli.specs.declared.args.ArgsFault.TheVariants.{NoMemory, Usage}
 use Rattle.am_cli.specs.declared.topics.Topic.{Topic}
@@ -31,6 +31,10 @@ no_world rows refuses _ asks range = absurd asks
 pub no_threads : (rows : List Row) → ((walkers workers rounds : ℕ) → IsNumber rows (codes "walkers") walkers → IsNumber rows (codes "workers") workers → IsNumber rows (codes "rounds") rounds → IsInRange (Threads walkers workers rounds) → ⊥) → AsksForNone topics.Threads rows
 no_threads rows refuses (Threads walkers workers rounds) asks range = refuses walkers workers rounds asks.0 asks.1 asks.2 range
 no_threads rows refuses _ asks range = absurd asks
+
+pub no_trace : (rows : List Row) → flagged (first_of (codes "plain") rows) ≡ None → AsksForNone topics.Trace rows
+no_trace rows refuses (Trace plain) asks range = absurd (let other : Some plain ≡ None = sym asks ∙ refuses in cc)
+no_trace rows refuses _ asks range = absurd asks
 
 pub no_help : (rows : List Row) → helped (first_of (codes "command") rows) ≡ None → AsksForNone topics.Help rows
 no_help rows refuses (Help topic) asks range = absurd (let other : Some topic ≡ None = sym asks ∙ refuses in cc)

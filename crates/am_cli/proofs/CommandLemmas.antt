@@ -8,7 +8,7 @@ use Rattle.clap.specs.Words.{AddsSubcommand, App, ReadsOne, Row, Text, first_of,
 use Rattle.std.specs.Str.Parse.{ParsesUnsigned, digits_value, without_leading_plus}
 use Rattle.am_cli.specs.{IsCommand, IsNumber}
 use Rattle.am_cli.specs.Args.{IsNumberUpTo}
-use Rattle.am_cli.specs.CommandLine.{IsNumberIn, helped}
+use Rattle.am_cli.specs.CommandLine.{IsNumberIn, flagged, helped}
 
 -- a command has one more
 pub adds : (old sub new : Command) (whole part : App) → IsCommand whole old → IsCommand part sub → AddsSubcommand old sub new → IsCommand (with_subcommand whole part.top) new
@@ -57,3 +57,7 @@ no_number_in found id there none (Some number) is fits = none number is fits
 -- what `help` is asked of, by the word that is read
 pub helped_is : (found : Found) (id : Text) (read : Option Text) → read ≡ first_value found id → helped (first_of id (rows_of found)) ≡ helped read
 helped_is found id read e = ap helped (sym (e ∙ first_value-rows found id))
+
+-- whether an option that has no value stands there, by the word that is read
+pub flagged_is : (found : Found) (id : Text) (read : Option Text) → read ≡ first_value found id → flagged (first_of id (rows_of found)) ≡ flagged read
+flagged_is found id read e = ap flagged (sym (e ∙ first_value-rows found id))

@@ -1,11 +1,11 @@
 -- Each way in which the program ends.
-use Rattle.std.proofs.Common.{◌≡◌, ℕ, List, Option, None, Some, refl, ◌⊎◌, inl, inr, codes}
+use Rattle.std.proofs.Common.{◌≡◌, ℕ, Bool, List, Option, None, Some, refl, subst, ◌⊎◌, inl, inr, codes}
 use Rattle.std.specs.Io.KnownBytes.{Appends}
 use Rattle.am_mountinfo.specs.{ShowsInput, StopsShowing}
 use Rattle.am_recall.specs.declared.recalled.Recalled.{Recalled}
 use Rattle.am_runner.specs.{IsTally, Tally}
-use Rattle.am_script.specs.{PlaysInput, StopsInput, ScriptFault, Summary}
-use Rattle.am_cli.specs.{Exits, Played, Stopped, Traced, TraceStopped, Drawn, DrawStopped, Shown, ShowStopped, Judged, JudgeStopped, Imported, ImportStopped, Ran, Untold, NotRun, Helped, NotHelped, Versioned, NotVersioned, rounds_line, status_of_verdict, SaysWhole}
+use Rattle.am_script.specs.{PlaysInput, StopsInput, ScriptFault, Summary, answers_alone}
+use Rattle.am_cli.specs.{Exits, Played, Stopped, Traced, TraceStopped, Drawn, DrawStopped, Shown, ShowStopped, Judged, JudgeStopped, Imported, ImportStopped, Ran, Untold, NotRun, Helped, NotHelped, Versioned, NotVersioned, rounds_line, status_of_verdict, style_of, SaysWhole}
 use Rattle.am_cli.specs.Help.{help_text, version_line}
 use Rattle.am_cli.specs.Telling.{import_told, judge_told, Tells, TellsFault, word_told}
 use Rattle.am_draw.specs.{DrawsInput, StopsDrawing}
@@ -13,21 +13,21 @@ use Rattle.am_import.specs.{ImportsInput, StopsImporting, ImportFault}
 use Rattle.am_traces.specs.Judged.{JudgesInput, StopsJudging}
 use Rattle.am_traces.specs.declared.verdict.JudgeFault.{JudgeFault}
 use Rattle.am_traces.specs.declared.verdict.Verdict.{Verdict}
-use Rattle.am_views.specs.{TracesInput, StopsTrace}
+use Rattle.am_views.specs.{TraceStyle, traced}
 use Rattle.am_cli.specs.declared.args.Args.TheVariants.{Script, Trace, Draw, World, Judge, Import, Threads, Help, Version}
 use Rattle.am_cli.specs.declared.topics.Topic.{Topic}
 
-pub ends_played : (recalled : Recalled) (input rest old new quiet : Option (List ℕ)) (summary : Summary) → PlaysInput input rest old new summary → Exits Script recalled input rest old new quiet quiet 0
+pub ends_played : (recalled : Recalled) (input rest old new quiet : Option (List ℕ)) (summary : Summary) → PlaysInput answers_alone input rest old new summary → Exits Script recalled input rest old new quiet quiet 0
 ends_played recalled input rest old new quiet summary plays = record { end = Played summary; asked_is = refl; status_is = refl; streams = (plays, refl) }
 
-pub ends_stopped : (recalled : Recalled) (input rest old new quiet told : Option (List ℕ)) (fault : ScriptFault) → StopsInput input rest old new fault → TellsFault recalled fault quiet told → Exits Script recalled input rest old new quiet told 1
+pub ends_stopped : (recalled : Recalled) (input rest old new quiet told : Option (List ℕ)) (fault : ScriptFault) → StopsInput answers_alone input rest old new fault → TellsFault recalled fault quiet told → Exits Script recalled input rest old new quiet told 1
 ends_stopped recalled input rest old new quiet told fault stops tells = record { end = Stopped fault; asked_is = refl; status_is = refl; streams = (stops, tells) }
 
-pub ends_traced : (recalled : Recalled) (input rest old new quiet : Option (List ℕ)) (summary : Summary) → TracesInput input rest old new summary → Exits Trace recalled input rest old new quiet quiet 0
-ends_traced recalled input rest old new quiet summary traces = record { end = Traced summary; asked_is = refl; status_is = refl; streams = (traces, refl) }
+pub ends_traced : (recalled : Recalled) (plain : Bool) (style : TraceStyle) → style ≡ style_of plain → (input rest old new quiet : Option (List ℕ)) (summary : Summary) → PlaysInput (traced style) input rest old new summary → Exits (Trace plain) recalled input rest old new quiet quiet 0
+ends_traced recalled plain style is input rest old new quiet summary traces = record { end = Traced plain summary; asked_is = refl; status_is = refl; streams = (subst (λ (s : TraceStyle). PlaysInput (traced s) input rest old new summary) is traces, refl) }
 
-pub ends_trace_stopped : (recalled : Recalled) (input rest old new quiet told : Option (List ℕ)) (fault : ScriptFault) → StopsTrace input rest old new fault → TellsFault recalled fault quiet told → Exits Trace recalled input rest old new quiet told 1
-ends_trace_stopped recalled input rest old new quiet told fault stops tells = record { end = TraceStopped fault; asked_is = refl; status_is = refl; streams = (stops, tells) }
+pub ends_trace_stopped : (recalled : Recalled) (plain : Bool) (style : TraceStyle) → style ≡ style_of plain → (input rest old new quiet told : Option (List ℕ)) (fault : ScriptFault) → StopsInput (traced style) input rest old new fault → TellsFault recalled fault quiet told → Exits (Trace plain) recalled input rest old new quiet told 1
+ends_trace_stopped recalled plain style is input rest old new quiet told fault stops tells = record { end = TraceStopped plain fault; asked_is = refl; status_is = refl; streams = (subst (λ (s : TraceStyle). StopsInput (traced s) input rest old new fault) is stops, tells) }
 
 pub ends_drawn : (recalled : Recalled) (first last from to : ℕ) → from ≡ first → to ≡ last → (input rest old new quiet : Option (List ℕ)) (summary : Summary) → DrawsInput from to input rest old new summary → Exits (Draw first last) recalled input rest old new quiet quiet 0
 ends_drawn recalled first last from to e f input rest old new quiet summary draws = record { end = Drawn from to summary; asked_is = cc; status_is = refl; streams = (draws, refl) }

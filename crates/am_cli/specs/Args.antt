@@ -23,7 +23,7 @@ IsNumberUpTo most (Some number) = number ≤ most
 -- numbers of events and of a namespace, and so many threads and rounds, as may be asked for
 abbrev pub IsInRange : Args → Type 0
 IsInRange Script = ⊤
-IsInRange Trace = ⊤
+IsInRange (Trace plain) = ⊤
 IsInRange (Draw first last) = IsUpTo 4294967295 first × IsUpTo 4294967295 last
 IsInRange (World namespace) = IsNumberUpTo 4294967295 namespace
 IsInRange Judge = ⊤

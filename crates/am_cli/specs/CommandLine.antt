@@ -1,6 +1,6 @@
 -- The commands that there are, as `clap` has them, and what they ask for: own choice
 -- (docs/FORMATS.md, "The program").
-use Rattle.std.specs.Prelude.{◌≡◌, ◌≢◌, ◌⊎◌, ⊤, ℕ, pos, false, true, List, [], ◌∷◌, codes, Option, None, Some, option_map}
+use Rattle.std.specs.Prelude.{◌≡◌, ◌≢◌, ◌⊎◌, ⊤, ℕ, pos, Bool, false, true, List, [], ◌∷◌, codes, bytes_eq, Option, None, Some, option_map, if◌then◌else◌}
 use Rattle.std.specs.Str.Parse.{IsNumeral, digits_value, without_leading_plus}
 use Rattle.clap.specs.declared.builder.command.Command.{Command}
 use Rattle.clap.specs.declared.builder.command.Command.TheViews.{out-Command}
@@ -8,7 +8,7 @@ use Rattle.clap.specs.Words.{app_of, App, IsAmong, Row, Rule, Text, fault_of, fi
 use Rattle.clap.specs.declared.error.kind.ErrorKind.{ErrorKind}
 use Rattle.clap.specs.declared.error.kind.ErrorKind.TheVariants as answers
 use Rattle.clap.specs.Simple.{on_top}
-use Rattle.clap.specs.declared.builder.action.ArgAction.TheVariants.{Set}
+use Rattle.clap.specs.declared.builder.action.ArgAction.TheVariants.{Set, SetTrue}
 use Rattle.clap.specs.declared.builder.value_parser.ValueParser.TheVariants.{Signed}
 use Rattle.am_cli.specs.declared.args.Args.{Args}
 use Rattle.am_cli.specs.declared.args.Args.TheVariants.{Script, Trace, Draw, World, Judge, Import, Threads, Help, Version}
@@ -33,13 +33,17 @@ number_rule name = record (new_rule name) {
 abbrev pub default_rule : Text → Text → Rule
 default_rule name default = record (number_rule name) { defaults = default ∷ [] }
 
+-- an option that has no value
+abbrev pub flag_rule : Text → Rule
+flag_rule name = record (new_rule name) { long = Some name; action = Some SetTrue }
+
 -- the command `script`, which has no options
 abbrev pub script_app : App
 script_app = new_app (codes "script")
 
--- the command `trace`, which has no options
+-- the command `trace`, with an option for a plain trace
 abbrev pub trace_app : App
-trace_app = new_app (codes "trace")
+trace_app = with_rule (new_app (codes "trace")) (flag_rule (codes "plain"))
 
 -- the command `draw`, with the numbers of the first and the last event
 abbrev pub draw_app : App
@@ -115,6 +119,18 @@ abbrev pub IsNumberIn : List Row → Text → Option ℕ → Type 0
 IsNumberIn rows option None = first_of option rows ≡ None
 IsNumberIn rows option (Some number) = IsNumber rows option number
 
+-- whether an option that has no value stands there, by the word that `clap` has for that
+abbrev pub flag_of : Text → Option Bool
+flag_of word =
+    if bytes_eq word (codes "true") then Some true
+    else if bytes_eq word (codes "false") then Some false
+    else None
+
+-- the same, if there is such a word
+abbrev pub flagged : Option Text → Option Bool
+flagged None = None
+flagged (Some word) = flag_of word
+
 -- the command that `help` is asked of, if there is one of this name, or of the program where none is named
 abbrev pub helped : Option Text → Option (Option Topic)
 helped None = Some None
@@ -123,7 +139,7 @@ helped (Some name) = option_map (λ topic. Some topic) (topic_named name)
 -- a command, with its options, asks for this
 abbrev pub AsksFor : Topic → List Row → Args → Type 0
 AsksFor topics.Script rows Script = ⊤
-AsksFor topics.Trace rows Trace = ⊤
+AsksFor topics.Trace rows (Trace plain) = flagged (first_of (codes "plain") rows) ≡ Some plain
 AsksFor topics.Draw rows (Draw first last) =
     IsNumber rows (codes "from") first × IsNumber rows (codes "to") last
 AsksFor topics.World rows (World namespace) = IsNumberIn rows (codes "namespace") namespace

@@ -21,7 +21,7 @@ program_help =
     ++ (codes "threads and help read standard input, and all write to standard output.\n\n"
     ++ (codes "Commands:\n"
     ++ (codes "  script   reads a script, plays it, and writes the answer of each event\n"
-    ++ (codes "  trace    the same, with each event and what is observed of it\n"
+    ++ (codes "  trace    the same, with each event and what is seen of it; --plain for diff\n"
     ++ (codes "  draw     reads a script, and writes a picture of what happens, an SVG\n"
     ++ (codes "             --from N, --to N  draw the events from one number to another\n"
     ++ (codes "  world    reads a script, and writes the world that it leaves\n"
@@ -49,12 +49,14 @@ script_help =
 -- what help says of the command `trace`
 abbrev pub trace_help : List ℕ
 trace_help =
-    codes "Usage: automount_cli trace < FILE\n\n"
-    ++ (codes "Reads a script, whole, plays it, and writes its trace: each event after the\n"
-    ++ (codes "number of its line, its answer after =, and what is observed, a line each,\n"
-    ++ (codes "after two blanks.\n\nOptions:\n  -h, --help  write this\n\n"
+    codes "Usage: automount_cli trace [--plain] < FILE\n\n"
+    ++ (codes "Reads a script, plays it as script does, and writes its trace: each event after\n"
+    ++ (codes "the number of its line, its answer after =, with how many lines stand below it,\n"
+    ++ (codes "and what is observed, a line each, after two blanks.\n\nOptions:\n"
+    ++ (codes "  --plain     leave out the numbers of lines, so that diff compares two traces\n"
+    ++ (codes "  -h, --help  write this\n\n"
     ++ (codes "Exit status: 0 the trace was written to its end; 1 a fault, told on standard\n"
-    ++ codes "error with its line.\nExample: echo events | automount_cli trace\n"))))
+    ++ codes "error with its line.\nExample: echo events | automount_cli trace\n"))))))
 
 -- what help says of the command `draw`
 abbrev pub draw_help : List ℕ
@@ -127,11 +129,12 @@ help_help =
 -- the command lines that there are
 abbrev pub usage_text : List ℕ
 usage_text =
-    codes "usage: automount_cli script|trace|judge|import < FILE\n"
+    codes "usage: automount_cli script|judge|import < FILE\n"
+    ++ (codes "       automount_cli trace [--plain] < FILE\n"
     ++ (codes "       automount_cli draw [--from N] [--to N] < FILE\n"
     ++ (codes "       automount_cli world [--namespace N] < FILE\n"
     ++ (codes "       automount_cli threads [--walkers N] [--workers N] [--rounds N]\n"
-    ++ codes "       automount_cli help [COMMAND]\n       automount_cli --version\n")))
+    ++ codes "       automount_cli help [COMMAND]\n       automount_cli --version\n"))))
 
 -- what help says of a command, or of the program
 abbrev pub help_text : Option Topic → List ℕ

@@ -1,18 +1,19 @@
 -- How a run of the program ends: own choice (docs/FORMATS.md, "The program").
-use Rattle.std.specs.Prelude.{◌≡◌, ◌⊎◌, ◌∷◌, ℕ, List, [], Option, codes, decimal}
+use Rattle.std.specs.Prelude.{◌≡◌, ◌⊎◌, ◌∷◌, ℕ, Bool, List, [], Option, codes, decimal, if◌then◌else◌}
 use Rattle.std.specs.List.{flat_map}
 use Rattle.std.specs.Io.KnownBytes.{Appends}
 use Rattle.am_import.specs.{ImportsInput, StopsImporting, ImportFault}
 use Rattle.am_mountinfo.specs.{ShowsInput, StopsShowing}
 use Rattle.am_recall.specs.declared.recalled.Recalled.{Recalled}
 use Rattle.am_runner.specs.{IsTally, Tally}
-use Rattle.am_script.specs.{PlaysInput, StopsInput, ScriptFault, Summary}
+use Rattle.am_script.specs.{PlaysInput, StopsInput, ScriptFault, Summary, answers_alone}
 use Rattle.am_draw.specs.{DrawsInput, StopsDrawing}
 use Rattle.am_traces.specs.Judged.{JudgesInput, StopsJudging}
 use Rattle.am_traces.specs.declared.verdict.JudgeFault.{JudgeFault}
 use Rattle.am_traces.specs.declared.verdict.Verdict.{Verdict}
 use Rattle.am_traces.specs.declared.verdict.Verdict.TheVariants.{Lawful, Broken}
-use Rattle.am_views.specs.{TracesInput, StopsTrace}
+use Rattle.am_views.specs.{TraceStyle, traced}
+use Rattle.am_views.specs.declared.trace.TraceStyle.TheVariants.{Plain, WithNumbers}
 use Rattle.clap.specs.Words.{Text}
 use Rattle.am_cli.specs.Args.{fault_number}
 use Rattle.am_cli.specs.CommandLine.{IsAsked, IsRefused}
@@ -30,16 +31,20 @@ use Rattle.am_cli.specs.declared.args.ArgsFault.TheVariants.{NoMemory, Usage}
 abbrev pub rounds_line : ℕ → List ℕ
 rounds_line rounds = flat_map (λ part. part) (codes "rounds " ∷ decimal rounds ∷ codes "\n" ∷ [])
 
+-- how a trace is printed that is to be plain, or not
+abbrev pub style_of : Bool → TraceStyle
+style_of plain = if plain then Plain else WithNumbers
+
 -- how a run of the program ends
 pub data End : Type 0 where
   -- the script is played to its end
   Played : Summary → End
   -- the script stops at its fault
   Stopped : ScriptFault → End
-  -- the script's trace is printed to its end
-  Traced : Summary → End
+  -- the script's trace, plain or not, is printed to its end
+  Traced : Bool → Summary → End
   -- the trace stops at the script's fault
-  TraceStopped : ScriptFault → End
+  TraceStopped : Bool → ScriptFault → End
   -- the picture of the script's events, from one number to another, is written to its end
   Drawn : ℕ → ℕ → Summary → End
   -- the picture stops at the script's fault
@@ -81,8 +86,8 @@ status_of_verdict (Broken line law) = 1
 abbrev pub status_of : End → ℕ
 status_of (Played summary) = 0
 status_of (Stopped fault) = 1
-status_of (Traced summary) = 0
-status_of (TraceStopped fault) = 1
+status_of (Traced plain summary) = 0
+status_of (TraceStopped plain fault) = 1
 status_of (Drawn first last summary) = 0
 status_of (DrawStopped first last fault) = 1
 status_of (Shown only summary) = 0
@@ -103,8 +108,8 @@ status_of NotVersioned = 1
 abbrev pub asked_of : End → Args
 asked_of (Played summary) = Script
 asked_of (Stopped fault) = Script
-asked_of (Traced summary) = Trace
-asked_of (TraceStopped fault) = Trace
+asked_of (Traced plain summary) = Trace plain
+asked_of (TraceStopped plain fault) = Trace plain
 asked_of (Drawn first last summary) = Draw first last
 asked_of (DrawStopped first last fault) = Draw first last
 asked_of (Shown only summary) = World only
@@ -127,12 +132,14 @@ asked_of NotVersioned = Version
 -- what the reader recalls of it.
 -- Threads, help and the version read nothing. Nothing is written where threads don't run.
 abbrev pub Leaves : End → Recalled → Option (List ℕ) → Option (List ℕ) → Option (List ℕ) → Option (List ℕ) → Option (List ℕ) → Option (List ℕ) → Type 0
-Leaves (Played summary) recalled input rest old new quiet told = PlaysInput input rest old new summary × (told ≡ quiet)
+Leaves (Played summary) recalled input rest old new quiet told =
+    PlaysInput answers_alone input rest old new summary × (told ≡ quiet)
 Leaves (Stopped fault) recalled input rest old new quiet told =
-    StopsInput input rest old new fault × TellsFault recalled fault quiet told
-Leaves (Traced summary) recalled input rest old new quiet told = TracesInput input rest old new summary × (told ≡ quiet)
-Leaves (TraceStopped fault) recalled input rest old new quiet told =
-    StopsTrace input rest old new fault × TellsFault recalled fault quiet told
+    StopsInput answers_alone input rest old new fault × TellsFault recalled fault quiet told
+Leaves (Traced plain summary) recalled input rest old new quiet told =
+    PlaysInput (traced (style_of plain)) input rest old new summary × (told ≡ quiet)
+Leaves (TraceStopped plain fault) recalled input rest old new quiet told =
+    StopsInput (traced (style_of plain)) input rest old new fault × TellsFault recalled fault quiet told
 Leaves (Drawn first last summary) recalled input rest old new quiet told =
     DrawsInput first last input rest old new summary × (told ≡ quiet)
 Leaves (DrawStopped first last fault) recalled input rest old new quiet told =

@@ -1,9 +1,9 @@
 //! The command line.
 
-ghost use Rattle.std.specs.Prelude.{◌≡◌, ◌≤◌, ℕ, map, IfErr, IfOk, Option};
-ghost use Rattle.clap.specs.Words.{found_of, kind_of, rows_of, subcommand_rows_of};
+ghost use Rattle.std.specs.Prelude.{◌≡◌, ◌≤◌, ℕ, map, IfErr, IfOk, None, Option, Some};
+ghost use Rattle.clap.specs.Words.{first_of, found_of, kind_of, rows_of, subcommand_rows_of};
 ghost use Rattle.am_cli.specs.Args.{fault_number, IsInRange, IsNumberUpTo};
-ghost use Rattle.am_cli.specs.CommandLine.{AnswersBy, Asks, AsksBy, AsksByNone, AsksFor, AsksForNone, AsksNothing, IsAsked, IsNumber, IsNumberIn, IsRefused, IsRefusedBy};
+ghost use Rattle.am_cli.specs.CommandLine.{AnswersBy, Asks, AsksBy, AsksByNone, AsksFor, AsksForNone, AsksNothing, IsAsked, IsNumber, IsNumberIn, IsRefused, IsRefusedBy, flag_of, flagged};
 ghost use Rattle.am_cli.specs.Topics.{topic_named};
 ghost use Rattle.am_cli.specs.declared.topics.Topic.TheVariants as topics;
 
@@ -20,7 +20,10 @@ pub enum Args {
     /// Plays the script on standard input.
     Script,
     /// Prints the trace of the script on standard input.
-    Trace,
+    Trace {
+        /// Without the numbers of lines.
+        plain: bool,
+    },
     /// Draws a picture of the script on standard input.
     Draw {
         /// The number of the first event that is drawn, from 1.
@@ -120,6 +123,43 @@ fn threads(given: &ArgMatches<'_>) -> Result<Args, ArgsFault>
     })
 }
 
+/// Whether an option that has no value stands there.
+fn flag(given: &ArgMatches<'_>, id: &str) -> Result<bool, ArgsFault>
+    ensures read { IfOk result (λ stands. flagged (first_of id.now (rows_of (found_of given.now))) ≡ Some stands) }
+    ensures refused { IfErr result (λ _. flagged (first_of id.now (rows_of (found_of given.now))) ≡ None) }
+{
+    let Some(word) = given.get_str(id) else {
+        return Err(ArgsFault::Usage);
+    };
+    match flag_of(word) {
+        Some(stands) => Ok(stands),
+        None => Err(ArgsFault::Usage),
+    }
+}
+
+/// Whether it does, by the word that `clap` has for that.
+fn flag_of(word: &str) -> Option<bool>
+    ensures { result ≡ flag_of word.now }
+{
+    if word == "true" {
+        return Some(true);
+    }
+    if word == "false" {
+        return Some(false);
+    }
+    None
+}
+
+fn trace(given: &ArgMatches<'_>) -> Result<Args, ArgsFault>
+    ensures range { IfOk result IsInRange }
+    ensures asks { IfOk result (AsksFor topics.Trace (rows_of (found_of given.now))) }
+    ensures refused { IfErr result (λ _. AsksForNone topics.Trace (rows_of (found_of given.now))) }
+{
+    Ok(Args::Trace {
+        plain: flag(given, "plain")?,
+    })
+}
+
 fn draw(given: &ArgMatches<'_>) -> Result<Args, ArgsFault>
     ensures range { IfOk result IsInRange }
     ensures asks { IfOk result (AsksFor topics.Draw (rows_of (found_of given.now))) }
@@ -163,7 +203,7 @@ fn asked(topic: Topic, given: &ArgMatches<'_>) -> Result<Args, ArgsFault>
 {
     match topic {
         Topic::Script => Ok(Args::Script),
-        Topic::Trace => Ok(Args::Trace),
+        Topic::Trace => trace(given),
         Topic::Draw => draw(given),
         Topic::World => world(given),
         Topic::Judge => Ok(Args::Judge),

@@ -2,7 +2,7 @@
 
 ghost use Rattle.std.specs.Prelude.{◌≡◌, false, IfOk};
 ghost use Rattle.clap.specs.Words.{rule_of};
-ghost use Rattle.am_cli.specs.CommandLine.{number_rule, default_rule, draw_app, world_app, threads_app, help_app, bare_program, cli, IsCommand};
+ghost use Rattle.am_cli.specs.CommandLine.{number_rule, default_rule, flag_rule, trace_app, draw_app, world_app, threads_app, help_app, bare_program, cli, IsCommand};
 
 use crate::help::version;
 use clap::{Arg, ArgAction, Command, value_parser};
@@ -25,6 +25,20 @@ fn option_or<'a>(alloc: Global, name: &'a str, default: &'a str) -> Arg<'a>
     ensures local { result.global ≡ false }
 {
     option(alloc, name).default_value(default)
+}
+
+/// An option that has no value.
+fn flag<'a>(alloc: Global, name: &'a str) -> Arg<'a>
+    ensures rule { rule_of result ≡ flag_rule name.entry.now }
+    ensures local { result.global ≡ false }
+{
+    Arg::new(alloc, name).long(name).action(ArgAction::SetTrue)
+}
+
+fn trace_command<'a>(alloc: Global) -> Result<Command<'a>, AllocError>
+    ensures { IfOk result (IsCommand trace_app) }
+{
+    Command::new(alloc, "trace").arg(flag(alloc, "plain"))
 }
 
 fn draw_command<'a>(alloc: Global) -> Result<Command<'a>, AllocError>
@@ -72,7 +86,7 @@ pub(crate) fn command<'a>(alloc: Global) -> Result<Command<'a>, AllocError>
 {
     bare_program(alloc)
         .subcommand(Command::new(alloc, "script"))?
-        .subcommand(Command::new(alloc, "trace"))?
+        .subcommand(trace_command(alloc)?)?
         .subcommand(draw_command(alloc)?)?
         .subcommand(world_command(alloc)?)?
         .subcommand(Command::new(alloc, "judge"))?

@@ -23,7 +23,7 @@ threads and help read standard input, and all write to standard output.
 
 Commands:
   script   reads a script, plays it, and writes the answer of each event
-  trace    the same, with each event and what is observed of it
+  trace    the same, with each event and what is seen of it; --plain for diff
   draw     reads a script, and writes a picture of what happens, an SVG
              --from N, --to N  draw the events from one number to another
   world    reads a script, and writes the world that it leaves
@@ -62,13 +62,14 @@ Example: echo events | automount_cli script
 fn trace_help() -> &'static [u8]
     ensures { result.now ≡ trace_help }
 {
-    b"Usage: automount_cli trace < FILE
+    b"Usage: automount_cli trace [--plain] < FILE
 
-Reads a script, whole, plays it, and writes its trace: each event after the
-number of its line, its answer after =, and what is observed, a line each,
-after two blanks.
+Reads a script, plays it as script does, and writes its trace: each event after
+the number of its line, its answer after =, with how many lines stand below it,
+and what is observed, a line each, after two blanks.
 
 Options:
+  --plain     leave out the numbers of lines, so that diff compares two traces
   -h, --help  write this
 
 Exit status: 0 the trace was written to its end; 1 a fault, told on standard
@@ -205,7 +206,8 @@ pub(crate) fn help_text(topic: Option<Topic>) -> &'static [u8]
 pub(crate) fn usage() -> &'static [u8]
     ensures { result.now ≡ usage_text }
 {
-    b"usage: automount_cli script|trace|judge|import < FILE
+    b"usage: automount_cli script|judge|import < FILE
+       automount_cli trace [--plain] < FILE
        automount_cli draw [--from N] [--to N] < FILE
        automount_cli world [--namespace N] < FILE
        automount_cli threads [--walkers N] [--workers N] [--rounds N]

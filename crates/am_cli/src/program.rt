@@ -5,7 +5,7 @@ ghost use Rattle.std.specs.List.{flat_map};
 ghost use Rattle.am_runner.specs.{IsTally};
 ghost use Rattle.clap.specs.Words.{Text};
 ghost use Rattle.am_recall.specs.declared.recalled.Recalled.{Recalled};
-ghost use Rattle.am_cli.specs.Program.{Exits, ExitsWith, SaysWhole, status_of_verdict, TellsRefusal};
+ghost use Rattle.am_cli.specs.Program.{Exits, ExitsWith, SaysWhole, status_of_verdict, style_of, TellsRefusal};
 ghost use Rattle.am_cli.specs.Args.{fault_number, IsInRange};
 ghost use Rattle.am_cli.specs.declared.args.Args.TheVariants as asks;
 
@@ -22,7 +22,7 @@ use am_recall::Recalling;
 use am_runner::{Tally, run_threads};
 use am_script::run_script;
 use am_traces::{Verdict, judge_trace};
-use am_views::trace_script;
+use am_views::{TraceStyle, trace_script};
 use itoa::Buffer;
 use std::alloc::{AllocError, Global};
 use std::env;
@@ -68,7 +68,7 @@ fn run_asked<T: Threads + Wait + Sync, R: Read, W: Write, E: Write>(
 {
     match args {
         Args::Script => play(alloc, reader, writer, errors),
-        Args::Trace => trace(alloc, reader, writer, errors),
+        Args::Trace { plain } => trace(alloc, plain, reader, writer, errors),
         Args::Draw { first, last } => draw(alloc, first, last, reader, writer, errors),
         Args::Judge => judge(alloc, &mut reader.reader, writer, errors),
         Args::Import => import_mounts(alloc, &mut reader.reader, writer, errors),
@@ -138,19 +138,31 @@ fn play<R: Read, W: Write, E: Write>(
     }
 }
 
+/// How a trace is printed that is to be plain, or not.
+fn style_of(plain: bool) -> TraceStyle
+    ensures { result ≡ style_of plain }
+{
+    if plain {
+        TraceStyle::Plain
+    } else {
+        TraceStyle::WithNumbers
+    }
+}
+
 /// Prints the trace of the script that the reader gives.
 fn trace<R: Read, W: Write, E: Write>(
     alloc: Global,
+    plain: bool,
     reader: &mut Recalling<R>,
     writer: &mut W,
     errors: &mut E,
 ) -> u8
-    ensures { Exits asks.Trace reader.new.recalled
+    ensures { Exits (asks.Trace plain) reader.new.recalled
         (R.remaining reader.old.reader) (R.remaining reader.new.reader)
         (W.contents writer.old) (W.contents writer.new) (E.contents errors.old)
         (E.contents errors.new) result }
 {
-    match trace_script(alloc, reader, writer) {
+    match trace_script(alloc, style_of(plain), reader, writer) {
         Ok(_traced) => 0,
         Err(fault) => {
             tell_fault(alloc, &reader.recalled, fault, errors);

@@ -7,7 +7,7 @@ use Rattle.am_machine.specs.{Setup, setup_of, initial_state_of}
 use Rattle.am_script.specs.{ScriptFault, ScriptFaultKind, Summary, lines_of, OpenedAs, NotOpened, IsReadFault, broken, played, Told, script_of}
 use Rattle.am_script.specs.declared.visit.Opened.{Opened}
 use Rattle.am_script.specs.Script.{Script}
-use Rattle.am_views.proofs.TraceInputs.{was_read, head_stops, told_in}
+use Rattle.am_views.proofs.WholeInputs.{was_read, head_stops, told_in}
 use Rattle.am_draw.specs.{AllDrawn, DrawStops, DrawnFrom, DrawsFrom, DrawsInput, IsSizeOf, IsSizeOfScript, NotCounted, Size, StopsDrawing}
 use Rattle.am_world.specs.Capacity.{state_of}
 

@@ -6,7 +6,7 @@ use Rattle.am_mountinfo.specs.{EventsPlayed, NotPlayed as NotAllPlayed}
 use Rattle.am_script.specs.declared.fault.ScriptFaultKind.TheVariants as kinds
 use Rattle.am_script.specs.{NotOpened, OpenedAs, ScriptFault, ScriptFaultKind, Summary, Told, broken, script_of}
 use Rattle.am_script.specs.declared.visit.Opened.{Opened}
-use Rattle.am_views.proofs.TraceInputs.{told_in}
+use Rattle.am_views.proofs.WholeInputs.{told_in}
 use Rattle.am_world.specs.Capacity.{state_of}
 use Rattle.am_world.specs.declared.world.World.{World}
 use Rattle.am_import.specs.declared.imports.ImportFault.{ImportFault}

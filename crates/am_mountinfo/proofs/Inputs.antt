@@ -8,7 +8,7 @@ use Rattle.am_machine.proofs.Consistent.{initial_consistent, run_consistent}
 use Rattle.am_script.specs.{ScriptFault, ScriptFaultKind, Summary, lines_of, OpenedAs, NotOpened, IsReadFault, broken, played, Told, events_in, script_of}
 use Rattle.am_script.specs.declared.visit.Opened.{Opened}
 use Rattle.am_script.specs.Script.{Script}
-use Rattle.am_views.proofs.TraceInputs.{was_read, head_stops, told_in}
+use Rattle.am_views.proofs.WholeInputs.{was_read, head_stops, told_in}
 use Rattle.am_mountinfo.specs.{WorldShown, AllShown, ShowStops, ShownFrom, ShowsInput, StopsShowing}
 use Rattle.am_mountinfo.proofs.Placed.{are_placed}
 use Rattle.am_world.specs.Capacity.{state_of}

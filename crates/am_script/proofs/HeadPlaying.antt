@@ -4,7 +4,7 @@ use Rattle.std.specs.Io.KnownBytes.{Appends}
 use Rattle.std.proofs.lemmas.List.{length_push}
 use Rattle.am_machine.specs.State.{State}
 use Rattle.am_machine.specs.{Setup, setup_of, initial_state_of}
-use Rattle.am_script.specs.{ScriptFault, ScriptFaultKind, Output, Summary, fault_at, IsLeft, HeadSoFar, HeadFault, GoesOn, EventsBegin, after_line, first_open, is_long, opening_read, Owed, bytes_of, StandsBy, Settles, HaltsAt, HaltsIn, end_of_head, Ending, with_next, script_behind, HeadStands, EventsStand, PlaceStands, HeadTaken, HeadStops, place_after, Told, IsInHead, script_from, script_by, begun_by, events_from, head_ends, without_world, Closes}
+use Rattle.am_script.specs.{ScriptFault, ScriptFaultKind, Output, Summary, fault_at, IsLeft, HeadSoFar, HeadFault, GoesOn, EventsBegin, after_line, Form, first_open, is_long, opening_read, Owed, bytes_of, StandsBy, Settles, HaltsAt, HaltsIn, end_of_head, Ending, with_next, script_behind, HeadStands, EventsStand, PlaceStands, HeadTaken, HeadStops, place_after, Told, IsInHead, script_from, script_by, begun_by, events_from, head_ends, without_world, Closes}
 use Rattle.am_script.specs.declared.fault.ScriptFaultKind.TheVariants.{LongLine, NoMemory}
 use Rattle.am_world.specs.Capacity.{state_of}
 use Rattle.am_world.specs.{WorldTable}
@@ -54,9 +54,9 @@ head_more heading next number summary output front line start held h taken = rec
 }
 
 -- the events begin
-pub head_begins : (heading whole : HeadSoFar) (world : State) (number : ℕ) (summary : Summary) (output : Output) (front : List (List ℕ)) (line : List ℕ) (start held : Option (List ℕ)) → HeadStands heading number summary output front start held →
-    after_line heading (number + 1) line ≡ EventsBegin whole → opening_read whole.said ≡ Ok (setup_of world) → world ≡ initial_state_of (setup_of world) → EventsStand world (number + 1) summary output (front ++ line ∷ []) start held
-head_begins heading whole world number summary output front line start held h taken opens begins = record {
+pub head_begins : (form : Form) → (heading whole : HeadSoFar) (world : State) (number : ℕ) (summary : Summary) (output : Output) (front : List (List ℕ)) (line : List ℕ) (start held : Option (List ℕ)) → HeadStands heading number summary output front start held →
+    after_line heading (number + 1) line ≡ EventsBegin whole → opening_read whole.said ≡ Ok (setup_of world) → world ≡ initial_state_of (setup_of world) → EventsStand form world (number + 1) summary output (front ++ line ∷ []) start held
+head_begins form heading whole world number summary output front line start held h taken opens begins = record {
   counted = one_more front line number h.counted;
   opening = setup_of world;
   events_at = number + 1;
@@ -71,29 +71,29 @@ head_begins heading whole world number summary output front line start held h ta
 }
 
 -- what a line makes of a head
-pub head_takes : (heading next : HeadSoFar) (world : Option WorldTable) (number : ℕ) (summary : Summary) (output : Output) (front : List (List ℕ)) (line : List ℕ) (start held : Option (List ℕ)) → HeadStands heading number summary output front start held →
-    HeadTaken heading (number + 1) line next world → PlaceStands (place_after next world) (number + 1) summary output (front ++ line ∷ []) start held
-head_takes heading next None number summary output front line start held h taken = head_more heading next number summary output front line start held h taken
-head_takes heading next (Some world) number summary output front line start held h taken =
-    head_begins heading taken.0 (state_of world) number summary output front line start held h taken.1 taken.2 taken.3
+pub head_takes : (form : Form) → (heading next : HeadSoFar) (world : Option WorldTable) (number : ℕ) (summary : Summary) (output : Output) (front : List (List ℕ)) (line : List ℕ) (start held : Option (List ℕ)) → HeadStands heading number summary output front start held →
+    HeadTaken heading (number + 1) line next world → PlaceStands form (place_after next world) (number + 1) summary output (front ++ line ∷ []) start held
+head_takes form heading next None number summary output front line start held h taken = head_more heading next number summary output front line start held h taken
+head_takes form heading next (Some world) number summary output front line start held h taken =
+    head_begins form heading taken.0 (state_of world) number summary output front line start held h taken.1 taken.2 taken.3
 
 -- ---- the head stops
 
-faulty : (script : Script) (fault : ScriptFault) (last : ℕ) (old new : Option (List ℕ)) → script ≡ without_world (Some fault) → Appends old new [] → HaltsIn script last old new fault
-faulty script fault last old new e none =
-    subst (λ (s : Script). HaltsIn s last old new fault) (sym e) (record { stopped = inr (record { found = refl; written = none }); here = tt })
+faulty : (form : Form) → (script : Script) (fault : ScriptFault) (last : ℕ) (old new : Option (List ℕ)) → script ≡ without_world (Some fault) → Appends old new [] → HaltsIn form script last old new fault
+faulty form script fault last old new e none =
+    subst (λ (s : Script). HaltsIn form s last old new fault) (sym e) (record { stopped = inr (record { found = refl; written = none }); here = tt })
 
 -- the head is whole, and one of its maps has this fault
-not_begun : (script : Script) (number : ℕ) (told : Told) (fault : ScriptFault) (last : ℕ) (old new : Option (List ℕ)) → script ≡ begun_by (Err fault) number told → Appends old new [] → HaltsIn script last old new fault
-not_begun script number told fault last old new e none =
-    subst (λ (s : Script). HaltsIn s last old new fault) (sym e) (record { stopped = inr (record { found = refl; written = none }); here = tt })
+not_begun : (form : Form) → (script : Script) (number : ℕ) (told : Told) (fault : ScriptFault) (last : ℕ) (old new : Option (List ℕ)) → script ≡ begun_by (Err fault) number told → Appends old new [] → HaltsIn form script last old new fault
+not_begun form script number told fault last old new e none =
+    subst (λ (s : Script). HaltsIn form s last old new fault) (sym e) (record { stopped = inr (record { found = refl; written = none }); here = tt })
 
 here_at : (opening : Option Setup) (fault : ScriptFault) (last : ℕ) → fault.line ≡ last → HaltsAt opening fault last
 here_at None fault last e = tt
 here_at (Some opening) fault last e = inr e
 
-ran_out : (script : Script) (number last : ℕ) (fault : ScriptFault) (old new : Option (List ℕ)) → fault ≡ fault_at number NoMemory → 1 ≤ number → number ≡ last → IsInHead script.events_at number → Appends old new [] → HaltsIn script last old new fault
-ran_out script number last fault old new e first same within none =
+ran_out : (form : Form) → (script : Script) (number last : ℕ) (fault : ScriptFault) (old new : Option (List ℕ)) → fault ≡ fault_at number NoMemory → 1 ≤ number → number ≡ last → IsInHead script.events_at number → Appends old new [] → HaltsIn form script last old new fault
+ran_out form script number last fault old new e first same within none =
     let line : fault.line ≡ number = ap (λ (f : ScriptFault). f.line) e in
     record {
       stopped = inl (record {
@@ -106,31 +106,31 @@ ran_out script number last fault old new e first same within none =
       here = here_at script.opening fault last (line ∙ same);
     }
 
-pub head_stops : (heading : HeadSoFar) (number : ℕ) (summary : Summary) (output : Output) (front : List (List ℕ)) (line : List ℕ) (start held : Option (List ℕ)) (fault : ScriptFault) → HeadStands heading number summary output front start held →
-    HeadStops heading (number + 1) line fault → (ending : Ending) → HaltsIn (script_behind front (with_next line ending)) (length front + 1) start held fault
-head_stops heading number summary output front line start held fault h (inl (inl stops)) ending =
-    faulty (script_behind front (with_next line ending)) fault (length front + 1) start held
+pub head_stops : (form : Form) → (heading : HeadSoFar) (number : ℕ) (summary : Summary) (output : Output) (front : List (List ℕ)) (line : List ℕ) (start held : Option (List ℕ)) (fault : ScriptFault) → HeadStands heading number summary output front start held →
+    HeadStops heading (number + 1) line fault → (ending : Ending) → HaltsIn form (script_behind front (with_next line ending)) (length front + 1) start held fault
+head_stops form heading number summary output front line start held fault h (inl (inl stops)) ending =
+    faulty form (script_behind front (with_next line ending)) fault (length front + 1) start held
     (ap (script_by ending.broke (front ++ line ∷ ending.lines)) (went (front ++ line ∷ ending.lines) heading number (line ∷ ending.lines) line ending.lines (HeadFault fault) (h.left (line ∷ ending.lines)) refl stops))
     (nothing_written heading number summary output front start held h)
-head_stops heading number summary output front line start held fault h (inl (inr none)) ending =
-    ran_out (script_behind front (with_next line ending)) (number + 1) (length front + 1) fault start held none (omega arith) (ap (λ (n : ℕ). n + 1) (sym h.counted)) (is_in_head ending.broke (front ++ line ∷ ending.lines) heading number (line ∷ ending.lines) (h.left (line ∷ ending.lines))) (nothing_written heading number summary output front start held h)
-head_stops heading number summary output front line start held fault h (inr (whole, ends, inl fails)) ending =
-    not_begun (script_behind front (with_next line ending)) (number + 1) (events_from ending.broke (number + 1) ending.lines) fault (length front + 1) start held
+head_stops form heading number summary output front line start held fault h (inl (inr none)) ending =
+    ran_out form (script_behind front (with_next line ending)) (number + 1) (length front + 1) fault start held none (omega arith) (ap (λ (n : ℕ). n + 1) (sym h.counted)) (is_in_head ending.broke (front ++ line ∷ ending.lines) heading number (line ∷ ending.lines) (h.left (line ∷ ending.lines))) (nothing_written heading number summary output front start held h)
+head_stops form heading number summary output front line start held fault h (inr (whole, ends, inl fails)) ending =
+    not_begun form (script_behind front (with_next line ending)) (number + 1) (events_from ending.broke (number + 1) ending.lines) fault (length front + 1) start held
     (begun ending.broke (front ++ line ∷ ending.lines) heading whole number (line ∷ ending.lines) line ending.lines (h.left (line ∷ ending.lines)) refl ends
     ∙ ap (λ (r : Result Setup ScriptFault). begun_by r (number + 1) (events_from ending.broke (number + 1) ending.lines)) fails)
     (nothing_written heading number summary output front start held h)
-head_stops heading number summary output front line start held fault h (inr (whole, ends, inr none)) ending =
-    ran_out (script_behind front (with_next line ending)) (number + 1) (length front + 1) fault start held none (omega arith) (ap (λ (n : ℕ). n + 1) (sym h.counted)) (is_in_head ending.broke (front ++ line ∷ ending.lines) heading number (line ∷ ending.lines) (h.left (line ∷ ending.lines))) (nothing_written heading number summary output front start held h)
+head_stops form heading number summary output front line start held fault h (inr (whole, ends, inr none)) ending =
+    ran_out form (script_behind front (with_next line ending)) (number + 1) (length front + 1) fault start held none (omega arith) (ap (λ (n : ℕ). n + 1) (sym h.counted)) (is_in_head ending.broke (front ++ line ∷ ending.lines) heading number (line ∷ ending.lines) (h.left (line ∷ ending.lines))) (nothing_written heading number summary output front start held h)
 
 -- the next line is too long
-pub head_long : (heading : HeadSoFar) (number : ℕ) (summary : Summary) (output : Output) (front : List (List ℕ)) (line : List ℕ) (start held new : Option (List ℕ)) (fault : ScriptFault) → HeadStands heading number summary output front start held → is_long line ≡ true →
-    Closes output (Err (fault_at (number + 1) LongLine)) held new (Err fault) → (ending : Ending) → HaltsIn (script_behind front (with_next line ending)) (length front + 1) start new fault
-head_long heading number summary output front line start held new fault h long closes ending =
+pub head_long : (form : Form) → (heading : HeadSoFar) (number : ℕ) (summary : Summary) (output : Output) (front : List (List ℕ)) (line : List ℕ) (start held new : Option (List ℕ)) (fault : ScriptFault) → HeadStands heading number summary output front start held → is_long line ≡ true →
+    Closes output (Err (fault_at (number + 1) LongLine)) held new (Err fault) → (ending : Ending) → HaltsIn form (script_behind front (with_next line ending)) (length front + 1) start new fault
+head_long form heading number summary output front line start held new fault h long closes ending =
     let told = fault_at (number + 1) LongLine in
     let stops : after_line heading (number + 1) line ≡ HeadFault told = rw long refl in
     let script = ap (script_by ending.broke (front ++ line ∷ ending.lines)) (went (front ++ line ∷ ending.lines) heading number (line ∷ ending.lines) line ending.lines (HeadFault told) (h.left (line ∷ ending.lines)) refl stops) in
     elim (closes [] start h.empty) [
-      | inl w ↦ subst (λ (f : ScriptFault). HaltsIn (script_behind front (with_next line ending)) (length front + 1) start new f) (sym (same_fault fault told w.same)) (faulty (script_behind front (with_next line ending)) told (length front + 1) start new script w.written)
+      | inl w ↦ subst (λ (f : ScriptFault). HaltsIn form (script_behind front (with_next line ending)) (length front + 1) start new f) (sym (same_fault fault told w.same)) (faulty form (script_behind front (with_next line ending)) told (length front + 1) start new script w.written)
       | inr w ↦ absurd (none_before w.lost.front w.lost.first w.lost.others w.lost.parts)
     ]
 
@@ -150,15 +150,15 @@ head_loses_none heading number summary output kept front line start held now h s
 
 -- ---- no line follows
 
-ends_so : (count : ℕ) (broke : Option ScriptFaultKind) (section : Option ℕ) (number : ℕ) (old new : Option (List ℕ)) → Appends old new [] → EndsSo count (head_ends broke section number) old new (end_of_head broke section number)
-ends_so count None None number old new none = record { no_fault = refl; written = none; lines = refl; refused = refl }
-ends_so count None (Some first) number old new none = record { stopped = inr (record { found = refl; written = none }); here = tt }
-ends_so count (Some kind) section number old new none = record { stopped = inr (record { found = refl; written = none }); here = tt }
+ends_so : (form : Form) → (count : ℕ) (broke : Option ScriptFaultKind) (section : Option ℕ) (number : ℕ) (old new : Option (List ℕ)) → Appends old new [] → EndsSo form count (head_ends broke section number) old new (end_of_head broke section number)
+ends_so form count None None number old new none = record { no_fault = refl; written = none; lines = refl; refused = refl }
+ends_so form count None (Some first) number old new none = record { stopped = inr (record { found = refl; written = none }); here = tt }
+ends_so form count (Some kind) section number old new none = record { stopped = inr (record { found = refl; written = none }); here = tt }
 
-pub head_ends_as : (heading : HeadSoFar) (number : ℕ) (summary : Summary) (output : Output) (front : List (List ℕ)) (count : ℕ) (start held : Option (List ℕ)) (broke : Option ScriptFaultKind) (r : Result Summary ScriptFault) → HeadStands heading number summary output front start held →
-    r ≡ end_of_head broke (first_open heading.within) number → EndsSo count (script_from broke front) start held r
-head_ends_as heading number summary output front count start held broke r h is =
+pub head_ends_as : (form : Form) → (heading : HeadSoFar) (number : ℕ) (summary : Summary) (output : Output) (front : List (List ℕ)) (count : ℕ) (start held : Option (List ℕ)) (broke : Option ScriptFaultKind) (r : Result Summary ScriptFault) → HeadStands heading number summary output front start held →
+    r ≡ end_of_head broke (first_open heading.within) number → EndsSo form count (script_from broke front) start held r
+head_ends_as form heading number summary output front count start held broke r h is =
     let script : script_from broke (front ++ []) ≡ head_ends broke (first_open heading.within) number = ended broke (front ++ []) heading number [] (h.left []) refl in
-    subst (λ (t : Result Summary ScriptFault). EndsSo count (script_from broke front) start held t) (sym is)
-    (subst (λ (s : Script). EndsSo count s start held (end_of_head broke (first_open heading.within) number)) (sym script ∙ script_ends front broke)
-    (ends_so count broke (first_open heading.within) number start held (nothing_written heading number summary output front start held h)))
+    subst (λ (t : Result Summary ScriptFault). EndsSo form count (script_from broke front) start held t) (sym is)
+    (subst (λ (s : Script). EndsSo form count s start held (end_of_head broke (first_open heading.within) number)) (sym script ∙ script_ends front broke)
+    (ends_so form count broke (first_open heading.within) number start held (nothing_written heading number summary output front start held h)))

@@ -1,25 +1,25 @@
--- The first answer that a writer didn't take whole.
+-- The first event of which a writer didn't take all.
 use Rattle.std.proofs.Common.{◌≡◌, ◌⊎◌, ◌<◌, ℕ, suc, List, [], ◌∷◌, ◌++◌, length, take, drop, refl, sym, ap, ap₂, ◌∙◌, append_assoc, append-nil, ⊎_elim, inl, inr, arith}
 use Rattle.std.proofs.lemmas.Grind.{flat_map-append}
 use Rattle.am_script.proofs.OwedLemmas.{bytes_more}
-use Rattle.am_script.specs.{answer_line, Owed, owed_by, bytes_of, lines_for, Answered, answers_in, owed_for}
+use Rattle.am_script.specs.{Owed, owed_by, bytes_of, Form, Shown, owed_for, written_of}
 
-pub owed_push : (rows : List Answered) (row : Answered) → owed_for (rows ++ row ∷ []) ≡ owed_for rows ++ owed_by row.asked.line (answer_line row.answer)
-owed_push rows row =
-    flat_map-append (λ (r : Answered). owed_by r.asked.line (answer_line r.answer)) rows (row ∷ [])
-    ∙ ap (λ (t : List Owed). owed_for rows ++ t) (append-nil (owed_by row.asked.line (answer_line row.answer)))
+pub owed_push : (form : Form) → (rows : List Shown) (row : Shown) → owed_for form (rows ++ row ∷ []) ≡ owed_for form rows ++ owed_by row.asked.line (form.text row)
+owed_push form rows row =
+    flat_map-append (λ (r : Shown). owed_by r.asked.line (form.text r)) rows (row ∷ [])
+    ∙ ap (λ (t : List Owed). owed_for form rows ++ t) (append-nil (owed_by row.asked.line (form.text row)))
 
 pub bytes_by : (line : ℕ) (text : List ℕ) → bytes_of (owed_by line text) ≡ text
 bytes_by line [] = refl
 bytes_by line (b ∷ text) = ap (λ (t : List ℕ). b ∷ t) (bytes_by line text)
 
-pub bytes_for : (rows : List Answered) → bytes_of (owed_for rows) ≡ lines_for (answers_in rows)
-bytes_for [] = refl
-bytes_for (row ∷ rows) =
-    bytes_more (owed_by row.asked.line (answer_line row.answer)) (owed_for rows)
-    ∙ ap₂ (λ (x y : List ℕ). x ++ y) (bytes_by row.asked.line (answer_line row.answer)) (bytes_for rows)
+pub bytes_for : (form : Form) → (rows : List Shown) → bytes_of (owed_for form rows) ≡ written_of form rows
+bytes_for form [] = refl
+bytes_for form (row ∷ rows) =
+    bytes_more (owed_by row.asked.line (form.text row)) (owed_for form rows)
+    ∙ ap₂ (λ (x y : List ℕ). x ++ y) (bytes_by row.asked.line (form.text row)) (bytes_for form rows)
 
--- ---- a byte of some answer
+-- ---- a byte of some event
 
 abbrev first_or : Owed → List Owed → Owed
 first_or d [] = d
@@ -59,38 +59,38 @@ split_owed line (b ∷ text) rest (f ∷ front) first others e =
       rest_is = i.rest_is;
     })) (split_owed line text rest front first others (ap (drop 1) e))
 
--- the answer that has the byte
-pub record Within (rows : List Answered) (front : List Owed) (first : Owed) : Type 0 where
-  pub done : List Answered
-  pub here : Answered
-  pub others : List Answered
+-- the event that has the byte
+pub record Within (form : Form) (rows : List Shown) (front : List Owed) (first : Owed) : Type 0 where
+  pub done : List Shown
+  pub here : Shown
+  pub others : List Shown
   pub parted : rows ≡ (done ++ here ∷ []) ++ others
   pub line_is : first.line ≡ here.asked.line
   pub taken : ℕ
-  pub short : taken < length (answer_line here.answer)
-  pub bytes : bytes_of front ≡ lines_for (answers_in done) ++ take taken (answer_line here.answer)
+  pub short : taken < length (form.text here)
+  pub bytes : bytes_of front ≡ written_of form done ++ take taken (form.text here)
 
-behind_one : (row : Answered) (rows : List Answered) (front : List Owed) (first : Owed) (others : List Owed) (i : Behind row.asked.line (answer_line row.answer) (owed_for rows) front first others) → Within rows i.left first → Within (row ∷ rows) front first
-behind_one row rows front first others i w = record {
+behind_one : (form : Form) → (row : Shown) (rows : List Shown) (front : List Owed) (first : Owed) (others : List Owed) (i : Behind row.asked.line (form.text row) (owed_for form rows) front first others) → Within form rows i.left first → Within form (row ∷ rows) front first
+behind_one form row rows front first others i w = record {
   done = row ∷ w.done;
   here = w.here;
   others = w.others;
-  parted = ap (λ (t : List Answered). row ∷ t) w.parted;
+  parted = ap (λ (t : List Shown). row ∷ t) w.parted;
   line_is = w.line_is;
   taken = w.taken;
   short = w.short;
   bytes =
       ap bytes_of i.front_is
-      ∙ bytes_more (owed_by row.asked.line (answer_line row.answer)) i.left
-      ∙ ap₂ (λ (x y : List ℕ). x ++ y) (bytes_by row.asked.line (answer_line row.answer)) w.bytes
-      ∙ sym (append_assoc (answer_line row.answer) (lines_for (answers_in w.done)) (take w.taken (answer_line w.here.answer)));
+      ∙ bytes_more (owed_by row.asked.line (form.text row)) i.left
+      ∙ ap₂ (λ (x y : List ℕ). x ++ y) (bytes_by row.asked.line (form.text row)) w.bytes
+      ∙ sym (append_assoc (form.text row) (written_of form w.done) (take w.taken (form.text w.here)));
 }
 
-pub within_some : (rows : List Answered) (front : List Owed) (first : Owed) (others : List Owed) → owed_for rows ≡ front ++ first ∷ others → Within rows front first
-within_some [] [] first others e = absurd cc
-within_some [] (f ∷ front) first others e = absurd cc
-within_some (row ∷ rows) front first others e =
-    ⊎_elim (λ (i : InText row.asked.line (answer_line row.answer) front first). record {
+pub within_some : (form : Form) → (rows : List Shown) (front : List Owed) (first : Owed) (others : List Owed) → owed_for form rows ≡ front ++ first ∷ others → Within form rows front first
+within_some form [] [] first others e = absurd cc
+within_some form [] (f ∷ front) first others e = absurd cc
+within_some form (row ∷ rows) front first others e =
+    ⊎_elim (λ (i : InText row.asked.line (form.text row) front first). record {
       done = [];
       here = row;
       others = rows;
@@ -99,4 +99,4 @@ within_some (row ∷ rows) front first others e =
       taken = i.taken;
       short = i.short;
       bytes = i.bytes;
-    }) (λ (i : Behind row.asked.line (answer_line row.answer) (owed_for rows) front first others). behind_one row rows front first others i (within_some rows i.left first others i.rest_is)) (split_owed row.asked.line (answer_line row.answer) (owed_for rows) front first others e)
+    }) (λ (i : Behind row.asked.line (form.text row) (owed_for form rows) front first others). behind_one form row rows front first others i (within_some form rows i.left first others i.rest_is)) (split_owed row.asked.line (form.text row) (owed_for form rows) front first others e)

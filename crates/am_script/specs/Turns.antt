@@ -1,5 +1,5 @@
 -- One line of events is played: own choice (docs/FORMATS.md, "Scripts").
-use Rattle.std.specs.Prelude.{⊤, ◌≡◌, ◌⊎◌, ℕ, ◌+◌, Bool, cond, List, Option, None, Some, Result, Ok, Err}
+use Rattle.std.specs.Prelude.{⊤, ◌≡◌, ◌⊎◌, ℕ, ◌+◌, Bool, true, cond, List, Option, None, Some, Result, Ok, Err}
 use Rattle.std.specs.Io.KnownBytes.{Appends}
 use Rattle.am_machine.specs.{Event, Answer, Step}
 use Rattle.am_state.specs.{Obs}
@@ -9,8 +9,9 @@ use Rattle.am_script.specs.declared.fault.ScriptFault.{ScriptFault}
 use Rattle.am_script.specs.declared.fault.ScriptFaultKind.TheVariants.{NoMemory, WriteFailed}
 use Rattle.am_script.specs.declared.output.Output.{Output}
 use Rattle.am_script.specs.declared.play.Summary.{Summary}
-use Rattle.am_script.specs.Answers.{answer_line, is_refused}
+use Rattle.am_script.specs.Answers.{is_refused}
 use Rattle.am_script.specs.Fault.{fault_at}
+use Rattle.am_script.specs.Forms.{Form}
 use Rattle.am_script.specs.Outputs.{Owed, owed_by, bytes_of, IsLost, Stands, Settles, PutsOut}
 
 -- the line says an event
@@ -32,12 +33,18 @@ LineAnswered s (Ok (Some event)) next (Ok (Some answer)) = (seen : List Obs) × 
 LineAnswered s (Err kind) next (Err fault) = (next ≡ s) × (fault ≡ kind)
 LineAnswered s said next answer = ⊥
 
--- the event is answered, and the answer's line is put out
-pub record IsAnswered (s : State) (event : Event) (next : State) (number : ℕ) (kept keeps : Output) (old new : Option (List ℕ)) (refused : Bool) : Type 0 where
+-- the event comes, and what is written of it is put out
+pub record IsAnswered (form : Form) (s : State) (event : Event) (next : State) (number : ℕ)
+    (kept keeps : Output) (old new : Option (List ℕ)) (refused : Bool) : Type 0 where
   pub answer : Answer
   pub seen : List Obs
   pub step : Step s event answer seen next
-  pub puts : PutsOut kept keeps (owed_by number (answer_line answer)) old new
+  pub puts :
+      PutsOut kept keeps (owed_by number (form.text (record {
+        asked = record { line = number; event = event };
+        answer = answer;
+        seen = seen;
+      }))) old new
   pub test : refused ≡ is_refused answer
 
 -- nothing happens
@@ -46,18 +53,30 @@ pub record IsIdle (s next : State) (kept keeps : Output) (old new : Option (List
   pub settles : Settles kept keeps old new
 
 -- what a line says is done, and whether its event was refused
-abbrev pub TurnDone : State → Result (Option Event) ScriptFaultKind → State → ℕ → Output → Output → Option (List ℕ) → Option (List ℕ) → Option Bool → Type 0
-TurnDone s (Ok None) next number kept keeps old new None = IsIdle s next kept keeps old new
-TurnDone s (Ok None) next number kept keeps old new (Some refused) = ⊥
-TurnDone s (Ok (Some event)) next number kept keeps old new None = ⊥
-TurnDone s (Ok (Some event)) next number kept keeps old new (Some refused) =
-    IsAnswered s event next number kept keeps old new refused
-TurnDone s (Err kind) next number kept keeps old new played = ⊥
+abbrev pub TurnDone :
+    Form → State → Result (Option Event) ScriptFaultKind → State → ℕ → Output → Output → Option (List ℕ)
+    → Option (List ℕ) → Option Bool → Type 0
+TurnDone form s (Ok None) next number kept keeps old new None = IsIdle s next kept keeps old new
+TurnDone form s (Ok None) next number kept keeps old new (Some refused) = ⊥
+TurnDone form s (Ok (Some event)) next number kept keeps old new None = ⊥
+TurnDone form s (Ok (Some event)) next number kept keeps old new (Some refused) =
+    IsAnswered form s event next number kept keeps old new refused
+TurnDone form s (Err kind) next number kept keeps old new played = ⊥
 
--- the line has a fault. An event is always answered: where it finds no memory, as refused.
-abbrev pub TurnStopped : State → Result (Option Event) ScriptFaultKind → State → Output → Output → Option (List ℕ) → Option (List ℕ) → ScriptFaultKind → Type 0
-TurnStopped s (Ok event) next kept keeps old new kind = ⊥
-TurnStopped s (Err fault) next kept keeps old new kind = IsIdle s next kept keeps old new × (kind ≡ fault)
+-- there is no memory for the event, which ends the script
+pub record FindsNoRoom (form : Form) (s next : State) (kept keeps : Output) (old new : Option (List ℕ))
+    (kind : ScriptFaultKind) : Type 0 where
+  pub ends : form.ends ≡ true
+  pub idle : IsIdle s next kept keeps old new
+  pub told : kind ≡ NoMemory
+
+-- the line has a fault, or there is no memory for its event
+abbrev pub TurnStopped :
+    Form → State → Result (Option Event) ScriptFaultKind → State → Output → Output → Option (List ℕ)
+    → Option (List ℕ) → ScriptFaultKind → Type 0
+TurnStopped form s (Ok None) next kept keeps old new kind = ⊥
+TurnStopped form s (Ok (Some event)) next kept keeps old new kind = FindsNoRoom form s next kept keeps old new kind
+TurnStopped form s (Err fault) next kept keeps old new kind = IsIdle s next kept keeps old new × (kind ≡ fault)
 
 -- ---- what is kept goes to the writer, and then this is how a script ends
 

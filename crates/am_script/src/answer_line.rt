@@ -47,8 +47,9 @@ pub fn is_refused(answer: &Answer) -> bool
     }
 }
 
+/// Puts out what an answer says.
 #[tactic(auto, using(crate::proofs::Pieces::puts_two, crate::proofs::Pieces::puts_three))]
-fn put_text<W: Write>(output: &mut Output, answer: &Answer, writer: &mut W)
+pub fn put_text<W: Write>(output: &mut Output, answer: &Answer, writer: &mut W)
     ensures { Puts output.old output.new (answer_text answer.now) (W.contents writer.old)
         (W.contents writer.new) }
 {

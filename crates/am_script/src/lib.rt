@@ -26,4 +26,5 @@ pub mod visit;
 mod walker_line;
 
 pub use fault::{ScriptFault, ScriptFaultKind};
-pub use play::{Summary, run_script};
+pub use play::{Summary, play_script, run_script};
+pub use turn::Manner;

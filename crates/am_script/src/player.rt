@@ -8,7 +8,7 @@ use crate::head_line::{end_head, take_head_line};
 use crate::heading::Heading;
 use crate::output::Output;
 use crate::play::Summary;
-use crate::turn::{close, counted, play_line};
+use crate::turn::{Manner, close, counted};
 use am_world::World;
 use std::alloc::Global;
 use std::io::Write;
@@ -48,7 +48,8 @@ impl Place {
     }
 }
 
-/// A script as far as its lines were played. Their answers may be on their way to the writer.
+/// A script as far as its lines were played. What is written of them may be on its
+/// way to the writer.
 #[derive(Drop)]
 pub(crate) struct Player {
     pub place: Place,
@@ -62,11 +63,13 @@ pub(crate) struct Player {
 
 impl Player {
     ghost use Rattle.am_script.specs.Playing.{PlayerStands, TakesLine, StopsAtLine, StopsAtLong, Flushes, LosesAnswer, EndsPlayed, EndsStopped};
+    ghost use Rattle.am_script.specs.Forms.{Form};
     ghost use Rattle.std.specs.Prelude.{List, ℕ, Option, None};
 
     /// No line is taken yet.
     pub fn new(alloc: Global) -> Player
-        ensures stands { (start : Option (List ℕ)) → PlayerStands result [] start start }
+        ensures stands { (form : Form) (start : Option (List ℕ)) → PlayerStands form result [] start
+            start }
         ensures number { result.number ≡ 0 }
         ensures written { result.output.bytes.items ≡ [] }
     {
@@ -84,17 +87,18 @@ impl Player {
     }
 
     /// Plays the next line. A fault ends the script: what is kept of its answers is written before.
-    pub fn take_line<W: Write>(
+    pub fn take_line<M: Manner, W: Write>(
         &mut self,
         alloc: Global,
+        manner: &M,
         line: &[u8],
         writer: &mut W,
     ) -> Result<(), ScriptFault>
         requires { self.old.number < 2 ^ 62 }
-        ensures ok { OnOk result (TakesLine self.old self.new line.now (W.contents writer.old)
-            (W.contents writer.new)) }
-        ensures err { IfErr result (StopsAtLine self.old line.now (W.contents writer.old)
-            (W.contents writer.new)) }
+        ensures ok { OnOk result (TakesLine (M.writes manner.now) self.old self.new line.now
+            (W.contents writer.old) (W.contents writer.new)) }
+        ensures err { IfErr result (StopsAtLine (M.writes manner.now) self.old line.now
+            (W.contents writer.old) (W.contents writer.new)) }
         ensures number { OnOk result (self.new.number ≡ self.old.number + 1) }
     {
         self.number += 1;
@@ -102,7 +106,7 @@ impl Player {
         match &mut self.place {
             Place::Head(_) => self.place.take_in_head(alloc, number, line),
             Place::Events(world) => {
-                match play_line(alloc, world, number, line, &mut self.output, writer) {
+                match manner.play_line(alloc, world, number, line, &mut self.output, writer) {
                     Ok(played) => {
                         self.summary = counted(self.summary, played);
                         Ok(())

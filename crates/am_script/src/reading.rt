@@ -8,6 +8,7 @@ use crate::fault::{ScriptFault, ScriptFaultKind};
 use crate::line::split_end;
 use crate::play::Summary;
 use crate::player::Player;
+use crate::turn::Manner;
 use arrayvec::ArrayVec;
 use std::alloc::Global;
 use std::io::{Read, Write};
@@ -44,12 +45,14 @@ pub(crate) struct Reading {
 
 impl Reading {
     ghost use Rattle.am_script.specs.Playing.{TakesLine, StopsAtLine};
+    ghost use Rattle.am_script.specs.Forms.{Form};
     ghost use Rattle.am_script.specs.Played.{PlaysInput, StopsInput};
     ghost use Rattle.am_script.specs.Reading.{ReadingStands, TakesBytes, StopsInBytes, EndsRead, StopsRead, BreaksRead};
 
     /// Nothing is read yet.
     pub fn new(alloc: Global) -> Reading
-        ensures stands { (start : Option (List ℕ)) → ReadingStands result [] start start }
+        ensures stands { (form : Form) (start : Option (List ℕ)) → ReadingStands form result []
+            start start }
         ensures number { result.player.number ≡ 0 }
         ensures written { result.player.output.bytes.items ≡ [] }
     {
@@ -60,44 +63,46 @@ impl Reading {
 
     /// Plays the script that this reader has, from its beginning. The reader is asked only when no
     /// answer is held back.
-    pub fn play<R: Read, W: Write>(
+    pub fn play<M: Manner, R: Read, W: Write>(
         &mut self,
         alloc: Global,
+        manner: &M,
         reader: &mut R,
         writer: &mut W,
     ) -> Result<Summary, ScriptFault>
-        requires stands { ReadingStands self.old [] (W.contents writer.old)
+        requires stands { ReadingStands (M.writes manner.now) self.old [] (W.contents writer.old)
             (W.contents writer.old) }
         requires number { self.old.player.number ≡ 0 }
         requires written { self.old.player.output.bytes.items ≡ [] }
-        ensures ok { IfOk result (PlaysInput (R.remaining reader.old) (R.remaining reader.new)
+        ensures ok { IfOk result (PlaysInput (M.writes manner.now) (R.remaining reader.old) (R.remaining reader.new)
             (W.contents writer.old) (W.contents writer.new)) }
-        ensures err { IfErr result (StopsInput (R.remaining reader.old) (R.remaining reader.new)
+        ensures err { IfErr result (StopsInput (M.writes manner.now) (R.remaining reader.old) (R.remaining reader.new)
             (W.contents writer.old) (W.contents writer.new)) }
     {
         let mut buffer = [0; READ];
         for _ in 0..MOST_READS {
             match read_once(reader, &mut buffer) {
-                Some(0) => return self.end(alloc, writer),
-                Some(n) => self.take_bytes(alloc, &buffer[..n], writer)?,
-                None => return self.break_off(alloc, writer),
+                Some(0) => return self.end(alloc, manner, writer),
+                Some(n) => self.take_bytes(alloc, manner, &buffer[..n], writer)?,
+                None => return self.break_off(alloc, manner, writer),
             }
         }
-        self.break_off(alloc, writer)
+        self.break_off(alloc, manner, writer)
     }
 
     /// Plays the lines that end among these bytes, and writes their answers.
-    fn take_bytes<W: Write>(
+    fn take_bytes<M: Manner, W: Write>(
         &mut self,
         alloc: Global,
+        manner: &M,
         bytes: &[u8],
         writer: &mut W,
     ) -> Result<(), ScriptFault>
         requires few { length bytes.now ≤ 4096 }
         requires fits { self.old.player.number + length bytes.now < 2 ^ 62 }
-        ensures ok { OnOk result (TakesBytes self.old self.new bytes.now (W.contents writer.old)
+        ensures ok { OnOk result (TakesBytes (M.writes manner.now) self.old self.new bytes.now (W.contents writer.old)
             (W.contents writer.new)) }
-        ensures err { IfErr result (StopsInBytes self.old bytes.now (W.contents writer.old)
+        ensures err { IfErr result (StopsInBytes (M.writes manner.now) self.old bytes.now (W.contents writer.old)
             (W.contents writer.new)) }
         ensures written { OnOk result (self.new.player.output.bytes.items ≡ []) }
         ensures number { OnOk result (self.new.player.number
@@ -105,7 +110,7 @@ impl Reading {
     {
         let mut rest = bytes;
         while let Some((end, after)) = split_end(rest) {
-            self.take_end(alloc, end, writer)?;
+            self.take_end(alloc, manner, end, writer)?;
             rest = after;
         }
         if let Err(_) = self.held.try_extend_from_slice(rest) {
@@ -115,51 +120,64 @@ impl Reading {
     }
 
     /// Plays the line that ends with these bytes.
-    fn take_end<W: Write>(
+    fn take_end<M: Manner, W: Write>(
         &mut self,
         alloc: Global,
+        manner: &M,
         end: &[u8],
         writer: &mut W,
     ) -> Result<(), ScriptFault>
         requires { self.old.player.number < 2 ^ 62 }
-        ensures ok { OnOk result (TakesLine self.old.player self.new.player
+        ensures ok { OnOk result (TakesLine (M.writes manner.now) self.old.player self.new.player
             (self.old.held.items ++ end.now) (W.contents writer.old) (W.contents writer.new)) }
-        ensures err { IfErr result (StopsAtLine self.old.player (self.old.held.items ++ end.now)
+        ensures err { IfErr result (StopsAtLine (M.writes manner.now) self.old.player (self.old.held.items ++ end.now)
             (W.contents writer.old) (W.contents writer.new)) }
         ensures empty { OnOk result (self.new.held.items ≡ []) }
         ensures number { OnOk result (self.new.player.number ≡ self.old.player.number + 1) }
     {
         if self.held.is_empty() {
-            return self.player.take_line(alloc, end, writer);
+            return self.player.take_line(alloc, manner, end, writer);
         }
         if let Err(_) = self.held.try_extend_from_slice(end) {
             return Err(self.player.stop_long(writer));
         }
-        self.player.take_line(alloc, self.held.as_slice(), writer)?;
+        self.player
+            .take_line(alloc, manner, self.held.as_slice(), writer)?;
         self.held.clear();
         Ok(())
     }
 
     /// The reader came to its end.
-    fn end<W: Write>(&mut self, alloc: Global, writer: &mut W) -> Result<Summary, ScriptFault>
+    fn end<M: Manner, W: Write>(
+        &mut self,
+        alloc: Global,
+        manner: &M,
+        writer: &mut W,
+    ) -> Result<Summary, ScriptFault>
         requires { self.old.player.number < 2 ^ 62 }
-        ensures ok { IfOk result (EndsRead self.old (W.contents writer.old)
+        ensures ok { IfOk result (EndsRead (M.writes manner.now) self.old (W.contents writer.old)
             (W.contents writer.new)) }
-        ensures err { IfErr result (StopsRead self.old (W.contents writer.old)
+        ensures err { IfErr result (StopsRead (M.writes manner.now) self.old (W.contents writer.old)
             (W.contents writer.new)) }
     {
-        self.player.take_line(alloc, self.held.as_slice(), writer)?;
+        self.player
+            .take_line(alloc, manner, self.held.as_slice(), writer)?;
         self.player.end(None, writer)
     }
 
     /// The reader failed. The fault comes at the line behind those that were read whole.
-    fn break_off<W: Write>(&mut self, alloc: Global, writer: &mut W) -> Result<Summary, ScriptFault>
+    fn break_off<M: Manner, W: Write>(
+        &mut self,
+        alloc: Global,
+        manner: &M,
+        writer: &mut W,
+    ) -> Result<Summary, ScriptFault>
         requires { self.old.player.number < 2 ^ 62 }
         ensures ok { ¬ IsOk result }
-        ensures err { IfErr result (BreaksRead self.old (W.contents writer.old)
+        ensures err { IfErr result (BreaksRead (M.writes manner.now) self.old (W.contents writer.old)
             (W.contents writer.new)) }
     {
-        self.player.take_line(alloc, b"", writer)?;
+        self.player.take_line(alloc, manner, b"", writer)?;
         self.player.end(Some(ScriptFaultKind::ReadFailed), writer)
     }
 }

@@ -2,6 +2,7 @@
 
 ghost use Rattle.std.specs.Prelude.{◌≡◌, ◌+◌, ◌<◌, ◌≤◌, ◌^◌, IfOk, IfErr, OnOk};
 ghost use Rattle.am_script.specs.Script.{line_read, event_or_fault};
+ghost use Rattle.am_script.specs.Forms.{Form, answers_alone};
 ghost use Rattle.am_script.specs.Turns.{LineReadAs, LineAnswered, TurnDone, TurnStopped, Closes, counted};
 ghost use Rattle.am_world.specs.Capacity.{state_of};
 
@@ -16,10 +17,52 @@ use am_world::{Answer, Event, World};
 use std::alloc::Global;
 use std::io::Write;
 
-/// Plays the line of events with this number. It answers whether the event was refused, or none
-/// where the line is skipped.
+/// A manner in which a script is played: what is written of each event.
+pub trait Manner {
+    ghost writes: { Self → Form };
+
+    /// Plays the line of events with this number. It answers whether the event was refused, or none
+    /// where the line is skipped.
+    fn play_line<W: Write>(
+        &self,
+        alloc: Global,
+        world: &mut World,
+        number: u64,
+        line: &[u8],
+        output: &mut Output,
+        writer: &mut W,
+    ) -> Result<Option<bool>, ScriptFaultKind>
+        ensures ok { IfOk result (TurnDone (writes self.now) (state_of world.old)
+            (line_read line.now) (state_of world.new) number output.old output.new
+            (W.contents writer.old) (W.contents writer.new)) }
+        ensures err { IfErr result (TurnStopped (writes self.now) (state_of world.old)
+            (line_read line.now) (state_of world.new) output.old output.new
+            (W.contents writer.old) (W.contents writer.new)) };
+}
+
+/// Of each event the line of its answer is written.
+pub(crate) struct AnswerLines;
+
+impl Manner for AnswerLines {
+    ghost writes = { λ manner. answers_alone };
+
+    fn play_line<W: Write>(
+        &self,
+        alloc: Global,
+        world: &mut World,
+        number: u64,
+        line: &[u8],
+        output: &mut Output,
+        writer: &mut W,
+    ) -> Result<Option<bool>, ScriptFaultKind> {
+        play_line(alloc, world, number, line, output, writer)
+    }
+}
+
+/// Plays the line of events with this number, and puts out the line of the answer. It answers
+/// whether the event was refused, or none where the line is skipped.
 #[tactic(auto, using(crate::proofs::LineAnswers::turn_of_an_event, crate::proofs::LineAnswers::turn_of_no_event, crate::proofs::LineAnswers::turn_of_a_fault))]
-pub(crate) fn play_line<W: Write>(
+fn play_line<W: Write>(
     alloc: Global,
     world: &mut World,
     number: u64,
@@ -27,11 +70,11 @@ pub(crate) fn play_line<W: Write>(
     output: &mut Output,
     writer: &mut W,
 ) -> Result<Option<bool>, ScriptFaultKind>
-    ensures ok { IfOk result (TurnDone (state_of world.old) (line_read line.now)
+    ensures ok { IfOk result (TurnDone answers_alone (state_of world.old) (line_read line.now)
         (state_of world.new) number output.old output.new (W.contents writer.old)
         (W.contents writer.new)) }
-    ensures err { IfErr result (TurnStopped (state_of world.old) (line_read line.now)
-        (state_of world.new) output.old output.new (W.contents writer.old)
+    ensures err { IfErr result (TurnStopped answers_alone (state_of world.old)
+        (line_read line.now) (state_of world.new) output.old output.new (W.contents writer.old)
         (W.contents writer.new)) }
 {
     let Some(answer) = answer_event(alloc, world, line)? else {

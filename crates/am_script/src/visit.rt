@@ -11,8 +11,7 @@ use crate::fault::{ScriptFault, ScriptFaultKind};
 use crate::heading::Heading;
 pub use crate::input::{Input, read_all, read_at_most};
 use crate::line::{cut_kind, cut_line, split_line};
-pub use crate::turn::close;
-use crate::turn::read_line;
+pub use crate::turn::{close, read_line};
 use am_world::{Event, World};
 use std::alloc::Global;
 

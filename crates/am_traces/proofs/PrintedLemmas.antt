@@ -9,9 +9,10 @@ use Rattle.std.proofs.lemmas.List.Splits.{slice_split_at}
 use Rattle.std.proofs.lemmas.Fmt.{digits_decimal, decimal_nonempty}
 use Rattle.am_names.proofs.Basics.{left_of_and, right_of_and}
 use Rattle.am_lines.specs.{is_digit, is_line_feed}
-use Rattle.am_script.specs.{EndsNoLine, answer_text, lines_of}
+use Rattle.am_script.specs.{EndsNoLine, Shown, answer_text, lines_of}
 use Rattle.am_state.specs.{Obs}
-use Rattle.am_views.specs.{Shown, event_text, obs_text, obs_lines, shown_text, printed_trace}
+use Rattle.am_views.specs.{TraceStyle, event_text, number_part, obs_text, obs_lines, shown_text, printed_trace}
+use Rattle.am_views.specs.declared.trace.TraceStyle.TheVariants.{WithNumbers, Plain}
 use Rattle.am_traces.specs.Says.{IsObs, is_indented, IsTraceOf}
 use Rattle.am_traces.specs.Printed.{AreOnLines, IsOnLines, AllOnLines, seen_in}
 use Rattle.am_traces.proofs.NumberLemmas.{own}
@@ -65,22 +66,33 @@ all_said (obs ∷ seen) rest others are h =
     subst (λ (t : List ℕ). IsTraceOf (lines_of t) (obs ∷ (seen ++ others))) (sym e)
     (said obs (obs_lines seen ++ rest) (seen ++ others) are.0.0 are.0.1 (all_said seen rest others are.1 h))
 
-shown : (row : Shown) (rest : List ℕ) (others : List Obs) → IsOnLines row → IsTraceOf (lines_of rest) others → IsTraceOf (lines_of (shown_text row ++ rest)) (row.seen ++ others)
-shown row rest others is h =
-    let number : List ℕ = decimal row.asked.line in
+-- the number before an event, if there is one
+number_part_ends_none : (style : TraceStyle) (n : ℕ) → n < 2 ^ 64 → EndsNoLine (number_part style n)
+number_part_ends_none WithNumbers n h = number_ends_none n h
+number_part_ends_none Plain n h = no_end
+
+event_is_not_indented : (style : TraceStyle) (n : ℕ) (text : List ℕ) → n < 2 ^ 64 → is_indented (number_part style n ++ (codes ": " ++ text)) ≡ false
+event_is_not_indented WithNumbers n text h = not_indented (decimal n) (codes ": " ++ text) (digits_decimal own n h) (decimal_nonempty n h)
+event_is_not_indented Plain n text h = refl
+
+shown : (style : TraceStyle) (row : Shown) (rest : List ℕ) (others : List Obs) → IsOnLines row → IsTraceOf (lines_of rest) others → IsTraceOf (lines_of (shown_text style row ++ rest)) (row.seen ++ others)
+shown style row rest others is h =
+    let number : List ℕ = number_part style row.asked.line in
     let event : List ℕ = event_text row.asked.event in
     let asked : List ℕ = number ++ (codes ": " ++ event) in
-    let told : List ℕ = codes "= " ++ answer_text row.answer in
+    let count : List ℕ = codes " : " ++ decimal (length row.seen) in
+    let told : List ℕ = codes "= " ++ (answer_text row.answer ++ count) in
     let below : List ℕ = obs_lines row.seen ++ rest in
-    let e : shown_text row ++ rest ≡ asked ++ 10 ∷ (told ++ 10 ∷ below) = simp append_assoc in
+    let e : shown_text style row ++ rest ≡ asked ++ 10 ∷ (told ++ 10 ∷ below) = simp append_assoc in
     let asked_whole : EndsNoLine asked =
-    joined number (codes ": " ++ event) (number_ends_none row.asked.line is.number) (one_byte 58 (codes " " ++ event) refl (one_byte 32 event refl is.asked)) in
-    let told_whole : EndsNoLine told = one_byte 61 (codes " " ++ answer_text row.answer) refl (one_byte 32 (answer_text row.answer) refl is.told) in
+    joined number (codes ": " ++ event) (number_part_ends_none style row.asked.line is.number) (one_byte 58 (codes " " ++ event) refl (one_byte 32 event refl is.asked)) in
+    let counted : EndsNoLine count = one_byte 32 (codes ": " ++ decimal (length row.seen)) refl (one_byte 58 (codes " " ++ decimal (length row.seen)) refl (one_byte 32 (decimal (length row.seen)) refl (number_ends_none (length row.seen) is.count))) in
+    let answer : EndsNoLine (answer_text row.answer ++ count) = joined (answer_text row.answer) count is.told counted in
+    let told_whole : EndsNoLine told = one_byte 61 (codes " " ++ (answer_text row.answer ++ count)) refl (one_byte 32 (answer_text row.answer ++ count) refl answer) in
     subst (λ (t : List ℕ). IsTraceOf (lines_of t) (row.seen ++ others)) (sym e)
-    (plain asked (told ++ 10 ∷ below) (row.seen ++ others) asked_whole
-    (not_indented number (codes ": " ++ event) (digits_decimal own row.asked.line is.number) (decimal_nonempty row.asked.line is.number))
+    (plain asked (told ++ 10 ∷ below) (row.seen ++ others) asked_whole (event_is_not_indented style row.asked.line event is.number)
     (plain told below (row.seen ++ others) told_whole refl (all_said row.seen rest others is.seen h)))
 
-pub printed_says : (rows : List Shown) → AllOnLines rows → IsTraceOf (lines_of (printed_trace rows)) (seen_in rows)
-printed_says [] h = inl (refl, refl)
-printed_says (row ∷ rows) h = shown row (printed_trace rows) (seen_in rows) h.0 (printed_says rows h.1)
+pub printed_says : (style : TraceStyle) (rows : List Shown) → AllOnLines rows → IsTraceOf (lines_of (printed_trace style rows)) (seen_in rows)
+printed_says style [] h = inl (refl, refl)
+printed_says style (row ∷ rows) h = shown style row (printed_trace style rows) (seen_in rows) h.0 (printed_says style rows h.1)

@@ -1,5 +1,4 @@
+pub mod CountedLemmas
 pub mod FourPieces
-pub mod LostTraces
 pub mod Shows
-pub mod TraceInputs
-pub mod TracesSoFar
+pub mod WholeInputs

@@ -3,9 +3,9 @@ use Rattle.std.proofs.Common.{◌≡◌, ℕ, Bool, List, ◌++◌, length, drop
 use Rattle.std.proofs.Math.Seq.{drop-append_seam}
 use Rattle.am_machine.specs.{Event, Answer, Step, RanOut, Comes}
 use Rattle.am_machine.specs.State.{State}
-use Rattle.am_script.specs.{Output, is_refused, owed_by, Stands, Settles, Puts, Numbered}
+use Rattle.am_script.specs.{Output, is_refused, owed_by, Stands, Settles, Puts, Numbered, IsAnswered}
 use Rattle.am_state.specs.{Obs}
-use Rattle.am_views.specs.{shown_text, IsShown}
+use Rattle.am_views.specs.{TraceStyle, shown_text, traced}
 
 pub grows : (s next : State) (event : Event) (answer : Answer) (seen : List Obs) → Step s event answer seen next → next.trace ≡ s.trace ++ seen
 grows s next event answer seen (inl out) =
@@ -18,12 +18,12 @@ pub seen_is : (s next : State) (event : Event) (answer : Answer) (seen shown : L
 seen_is s next event answer seen shown before step e f =
     f ∙ ap (drop before) (grows s next event answer seen step) ∙ ap (λ (n : ℕ). drop n (s.trace ++ seen)) e ∙ drop-append_seam s.trace seen
 
-pub shows : (s next : State) (event : Event) (answer : Answer) (seen shown : List Obs) (number before : ℕ) (kept mid keeps : Output) (old now new : Option (List ℕ)) (refused : Bool) → Step s event answer seen next → before ≡ length s.trace → shown ≡ drop before next.trace → Settles kept mid old now → mid.line ≡ number → Puts mid keeps (shown_text (record { asked = record { line = number; event = event }; answer = answer; seen = shown })) now new → refused ≡ is_refused answer → IsShown s (record { line = number; event = event }) next kept keeps old new refused
-shows s next event answer seen shown number before kept mid keeps old now new refused step e f begun line put test =
+pub shows : (style : TraceStyle) (s next : State) (event : Event) (answer : Answer) (seen shown : List Obs) (number before : ℕ) (kept mid keeps : Output) (old now new : Option (List ℕ)) (refused : Bool) → Step s event answer seen next → before ≡ length s.trace → shown ≡ drop before next.trace → Settles kept mid old now → mid.line ≡ number → Puts mid keeps (shown_text style (record { asked = record { line = number; event = event }; answer = answer; seen = shown })) now new → refused ≡ is_refused answer → IsAnswered (traced style) s event next number kept keeps old new refused
+shows style s next event answer seen shown number before kept mid keeps old now new refused step e f begun line put test =
     let asked : Numbered = record { line = number; event = event } in record {
       answer = answer;
       seen = seen;
       step = step;
-      puts = λ all start stands. subst (λ (seen : List Obs). Stands keeps (all ++ owed_by number (shown_text (record { asked = asked; answer = answer; seen = seen }))) start new) (seen_is s next event answer seen shown before step e f) (subst (λ (n : ℕ). Stands keeps (all ++ owed_by n (shown_text (record { asked = asked; answer = answer; seen = shown }))) start new) line (put.puts all start (begun all start stands)));
+      puts = λ all start stands. subst (λ (seen : List Obs). Stands keeps (all ++ owed_by number (shown_text style (record { asked = asked; answer = answer; seen = seen }))) start new) (seen_is s next event answer seen shown before step e f) (subst (λ (n : ℕ). Stands keeps (all ++ owed_by n (shown_text style (record { asked = asked; answer = answer; seen = shown }))) start new) line (put.puts all start (begun all start stands)));
       test = test;
     }

@@ -1,6 +1,6 @@
 use Rattle.std.proofs.Common.{◌≡◌, ◌+◌, Option, List, ℕ, Some, Ok, Err, option_copied, refl, subst, arith}
 use Rattle.am_script.specs.{lines_in, Output, Numbered, Told, events_from, told_by}
-use Rattle.am_views.proofs.TracesSoFar.{more_lines}
+use Rattle.am_views.proofs.CountedLemmas.{more_lines}
 use Rattle.am_draw.specs.{Finishes, Lasts, lasts_of, tail_behind}
 use Rattle.am_draw.proofs.DrawnSoFar.{drawing_none, drawing_more, drawing_cut, drawing_ends, drawing_fails, no_room}
 use Rattle.am_world.specs.Capacity.{state_of}

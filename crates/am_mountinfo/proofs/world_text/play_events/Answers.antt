@@ -1,6 +1,6 @@
 use Rattle.std.proofs.Common.{◌≡◌, Some, Ok, option_copied, arith}
 use Rattle.am_script.specs.{lines_in, Told, events_from, told_by}
-use Rattle.am_views.proofs.TracesSoFar.{more_lines}
+use Rattle.am_views.proofs.CountedLemmas.{more_lines}
 use Rattle.am_mountinfo.proofs.PlayLemmas.{playing_none, playing_more, playing_ends, last_ends, playing_fails}
 use Rattle.am_world.specs.Capacity.{state_of}
 use Rattle.am_mountinfo.proofs.world_text.play_events.Goals as goal

@@ -8,7 +8,7 @@ abbrev pub invariant-loop : goal.invariant-loop
 invariant-loop g l = record {
   text : List ℕ;
   read : Consumes (g.R.Read.remaining l.fn.reader) (g.R.Read.remaining l.reader) text;
-  stands : ReadingStands l.self text (g.W.Write.contents l.fn.writer) (g.W.Write.contents l.writer);
+  stands : ReadingStands (g.M.Manner.writes l.manner) l.self text (g.W.Write.contents l.fn.writer) (g.W.Write.contents l.writer);
   number : l.self.player.number ≤ 4096 * l.counter;
   written : l.self.player.output.bytes.items ≡ [];
 }
