@@ -1,6 +1,6 @@
 -- What stands before the rows of a picture, and behind them: own choice (docs/FORMATS.md,
 -- "Pictures").
-use Rattle.std.specs.Prelude.{ℕ, ◌+◌, ◌*◌, nat_lt, List, ◌++◌, [], codes, decimal, if◌then◌else◌}
+use Rattle.std.specs.Prelude.{ℕ, ◌+◌, ◌*◌, ◌==◌, nat_lt, List, ◌++◌, [], codes, decimal, if◌then◌else◌}
 use Rattle.am_draw.specs.declared.part.Part.{Part}
 use Rattle.am_draw.specs.Lasting.{Lasts}
 use Rattle.am_draw.specs.Look.{look_text, right_text}
@@ -28,9 +28,18 @@ size_text across down =
 abbrev pub box_text : ℕ → ℕ → List ℕ
 box_text across down = codes "' viewBox='0 0 " ++ decimal across ++ (codes " " ++ decimal down)
 
+-- it is said where no row is drawn
+abbrev pub none_words : ℕ → List ℕ
+none_words rows = if rows == 0 then codes ": none is drawn" else []
+
 -- how many rows there are, of how many events
+abbrev pub row_count_words : ℕ → ℕ → List ℕ
+row_count_words rows events =
+    decimal rows ++ ((codes " of " ++ decimal events) ++ (codes " events" ++ none_words rows))
+
+-- the same; where there are no events, that there are none
 abbrev pub count_words : ℕ → ℕ → List ℕ
-count_words rows events = decimal rows ++ ((codes " of " ++ decimal events) ++ codes " events")
+count_words rows events = if events == 0 then codes "no event was played" else row_count_words rows events
 
 -- its title
 abbrev pub title_text : ℕ → ℕ → List ℕ
@@ -95,6 +104,10 @@ abbrev pub head_text : Part → List ℕ
 head_text part =
     head_for (wide 7 part.size.walkers) (wide 8 part.size.tokens) (tall part.skipped part.rows) part.rows
     part.size.events
+
+-- the picture of no event, which says so
+abbrev pub empty_picture : List ℕ
+empty_picture = head_for 7 8 0 0 0 ++ codes "</svg>\n"
 
 -- the bars that reach to the bottom of the last of so many rows
 abbrev pub last_bars : ℕ → ℕ → Lasts → List ℕ

@@ -2,7 +2,7 @@
 
 ghost use Rattle.std.specs.Prelude.{◌≡◌, ◌≤◌, ◌<◌, ◌+◌, ◌*◌, ◌^◌, ◌++◌, codes};
 ghost use Rattle.am_script.specs.{Puts};
-ghost use Rattle.am_draw.specs.Head.{size_text, box_text, count_words, title_text, tag_text, rules, walker_lanes, edges, token_title, right_columns, ground, head_for, head_text, last_bars, last_bars_in, tail_text};
+ghost use Rattle.am_draw.specs.Head.{size_text, box_text, none_words, row_count_words, count_words, title_text, tag_text, rules, walker_lanes, edges, token_title, right_columns, ground, head_for, head_text, empty_picture, last_bars, last_bars_in, tail_text};
 ghost use Rattle.am_draw.specs.Lasting.{lasts_of};
 ghost use Rattle.am_draw.specs.Look.{look_text, right_text};
 ghost use Rattle.am_draw.specs.Marks.{label, shift};
@@ -239,14 +239,45 @@ fn put_count<W: Write>(output: &mut Output, rows: u64, events: u64, writer: &mut
     put_closing(output, writer);
 }
 
-#[tactic(auto, using(am_script::proofs::Pieces::puts_three))]
-fn put_count_words<W: Write>(output: &mut Output, rows: u64, events: u64, writer: &mut W)
-    ensures { Puts output.old output.new (count_words rows events) (W.contents writer.old)
+#[tactic(auto, using(am_script::proofs::Pieces::puts_none))]
+fn put_none_words<W: Write>(output: &mut Output, rows: u64, writer: &mut W)
+    ensures { Puts output.old output.new (none_words rows) (W.contents writer.old)
+        (W.contents writer.new) }
+{
+    if rows == 0 {
+        put_word(output, b": none is drawn", writer);
+    }
+}
+
+#[tactic(auto, using(am_views::proofs::FourPieces::puts_four))]
+fn put_row_count_words<W: Write>(output: &mut Output, rows: u64, events: u64, writer: &mut W)
+    ensures { Puts output.old output.new (row_count_words rows events) (W.contents writer.old)
         (W.contents writer.new) }
 {
     put_number(output, b"", rows, writer);
     put_number(output, b" of ", events, writer);
     put_word(output, b" events", writer);
+    put_none_words(output, rows, writer);
+}
+
+fn put_count_words<W: Write>(output: &mut Output, rows: u64, events: u64, writer: &mut W)
+    ensures { Puts output.old output.new (count_words rows events) (W.contents writer.old)
+        (W.contents writer.new) }
+{
+    if events == 0 {
+        return put_word(output, b"no event was played", writer);
+    }
+    put_row_count_words(output, rows, events, writer)
+}
+
+/// Puts out the picture of no event.
+#[tactic(auto, using(am_script::proofs::Pieces::puts_two))]
+pub(crate) fn put_empty<W: Write>(output: &mut Output, writer: &mut W)
+    ensures { Puts output.old output.new empty_picture (W.contents writer.old)
+        (W.contents writer.new) }
+{
+    put_head_for(output, 7, 8, 0, 0, 0, writer);
+    put_word(output, b"</svg>\n", writer);
 }
 
 /// Puts out the bars that reach to the bottom of the last of so many rows, of which there are some.
