@@ -69,7 +69,7 @@ added_behind number lasts (row ∷ rows) =
 
 -- the lanes that these events come to, from none
 abbrev pub lanes_for : List Viewed → Lasts
-lanes_for rows = added_behind 1 (nothing_lasts 0 0) rows
+lanes_for rows = added_behind 1 (nothing_lasts 0 0 0 0) rows
 
 -- how many events there are, and how many lanes they come to
 abbrev pub size_of : List Viewed → Size
@@ -77,6 +77,8 @@ size_of rows = record {
   events = length rows;
   walkers = length (lanes_for rows).walkers;
   tokens = length (lanes_for rows).tokens;
+  systems = length (lanes_for rows).systems;
+  daemon = length (lanes_for rows).daemon;
 }
 
 -- a run of all events of the script has this size
@@ -144,7 +146,7 @@ tail_pieces bytes (row ∷ next ∷ rows) = tail_pieces bytes (next ∷ rows)
 
 -- in the beginning nobody holds one of the lanes
 abbrev pub first_lasts : Part → Lasts
-first_lasts part = nothing_lasts part.size.tokens part.size.walkers
+first_lasts part = nothing_lasts part.size.tokens part.size.walkers part.size.systems part.size.daemon
 
 -- the tail of the picture of these events
 abbrev pub tail_for : Part → List Viewed → List ℕ

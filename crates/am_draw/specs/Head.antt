@@ -12,9 +12,9 @@ use Rattle.am_draw.specs.Stretches.{all_bars}
 abbrev pub height : ℕ → ℕ
 height tall = 140 + 26 * tall
 
--- how wide one is with room for so many lanes of walkers and of tokens, in pixels
+-- how wide one is with room for so many lanes of walkers, and so many narrow ones, in pixels
 abbrev pub width : ℕ → ℕ → ℕ
-width walkers tokens = 844 + 44 * walkers + 20 * tokens
+width walkers narrow = 844 + 44 * walkers + 20 * narrow
 
 -- ---- the element that holds all others
 
@@ -48,9 +48,9 @@ title_text rows events =
 
 -- the tag, with its title, of a picture of so many rows of so many events, which are so tall
 abbrev pub tag_text : ℕ → ℕ → ℕ → ℕ → ℕ → List ℕ
-tag_text walkers tokens tall rows events =
-    size_text (width walkers tokens) (height tall)
-    ++ (box_text (width walkers tokens) (height tall) ++ title_text rows events)
+tag_text walkers narrow tall rows events =
+    size_text (width walkers narrow) (height tall)
+    ++ (box_text (width walkers narrow) (height tall) ++ title_text rows events)
 
 -- ---- what all rows stand on
 
@@ -85,25 +85,25 @@ right_columns far down =
 
 -- all of it, below rows that are so high
 abbrev pub ground : ℕ → ℕ → ℕ → List ℕ
-ground walkers tokens down =
-    (rules (width walkers tokens) down ++ walker_lanes (44 * walkers) down)
+ground walkers narrow down =
+    (rules (width walkers narrow) down ++ walker_lanes (44 * walkers) down)
     ++ (edges down (320 + 44 * walkers)
-    ++ (token_title (328 + 44 * walkers) ++ right_columns (shift walkers tokens) down))
+    ++ (token_title (328 + 44 * walkers) ++ right_columns (shift walkers narrow) down))
 
 -- ---- head and tail
 
 -- so many rows of so many events, which are so tall, with room for so many lanes
 abbrev pub head_for : ℕ → ℕ → ℕ → ℕ → ℕ → List ℕ
-head_for walkers tokens tall rows events =
-    tag_text walkers tokens tall rows events
+head_for walkers narrow tall rows events =
+    tag_text walkers narrow tall rows events
     ++ (look_text
-    ++ (ground walkers tokens (26 * tall) ++ label (codes "h") 46 84 (count_words rows events)))
+    ++ (ground walkers narrow (26 * tall) ++ label (codes "h") 46 84 (count_words rows events)))
 
 -- the head of the picture of this part
 abbrev pub head_text : Part → List ℕ
 head_text part =
-    head_for (wide 7 part.size.walkers) (wide 8 part.size.tokens) (tall part.skipped part.rows) part.rows
-    part.size.events
+    head_for (wide 7 part.size.walkers) (wide 8 part.size.tokens + wide 0 part.size.systems)
+    (tall part.skipped part.rows) part.rows part.size.events
 
 -- the picture of no event, which says so
 abbrev pub empty_picture : List ℕ

@@ -101,7 +101,8 @@ fn draw_again<W: Write>(
 ) -> Result<Summary, ScriptFault>
     requires fits { vec_len input.now.text < 2 ^ 62 }
     requires lasts { lasts_of counted.lasting
-        ≡ nothing_lasts counted.size.tokens counted.size.walkers }
+        ≡ nothing_lasts counted.size.tokens counted.size.walkers counted.size.systems
+        counted.size.daemon }
     ensures { DrawsAgain first last input.now.broke input.now.text.items counted.size
         (W.contents writer.old) (W.contents writer.new) result }
 {
@@ -154,9 +155,12 @@ fn cleared(lasting: Lasting, events: u64) -> Counted
       events = events;
       walkers = length (lasts_of lasting).walkers;
       tokens = length (lasts_of lasting).tokens;
+      systems = length (lasts_of lasting).systems;
+      daemon = length (lasts_of lasting).daemon;
     } }
     ensures lasts { lasts_of result.lasting ≡ nothing_lasts (length (lasts_of lasting).tokens)
-        (length (lasts_of lasting).walkers) }
+        (length (lasts_of lasting).walkers) (length (lasts_of lasting).systems)
+        (length (lasts_of lasting).daemon) }
 {
     let mut lasting = lasting;
     lasting.clear();
@@ -164,6 +168,8 @@ fn cleared(lasting: Lasting, events: u64) -> Counted
         events,
         walkers: lasting.walkers.len() as u64,
         tokens: lasting.tokens.len() as u64,
+        systems: lasting.systems.len() as u64,
+        daemon: lasting.daemon.len() as u64,
     };
     Counted { size, lasting }
 }
@@ -179,7 +185,8 @@ fn draw_opened<W: Write>(
 ) -> Result<Summary, ScriptFault>
     requires fits { opened.line + size_in (option_copied opened.rest) ≤ 2 ^ 63 }
     requires lasts { lasts_of counted.lasting
-        ≡ nothing_lasts counted.size.tokens counted.size.walkers }
+        ≡ nothing_lasts counted.size.tokens counted.size.walkers counted.size.systems
+        counted.size.daemon }
     ensures whole { OnOk result (opened.entry.broke ≡ None) }
     ensures ok { IsSizeOf (state_of opened.entry.world)
         (events_from opened.entry.broke opened.entry.line
@@ -231,12 +238,14 @@ fn count_events(
     lasting: &mut Lasting,
 ) -> Result<u64, ScriptFault>
     requires fits { line + size_in (option_copied rest) ≤ 2 ^ 63 }
-    requires nothing { lasts_of lasting.now ≡ nothing_lasts 0 0 }
+    requires nothing { lasts_of lasting.now ≡ nothing_lasts 0 0 0 0 }
     ensures ok { IfOk result (λ events. IsSizeOf (state_of world.old) (events_from broke line
         (lines_in (option_copied rest.entry))) (record {
           events = events;
           walkers = length (lasts_of lasting.new).walkers;
           tokens = length (lasts_of lasting.new).tokens;
+          systems = length (lasts_of lasting.new).systems;
+          daemon = length (lasts_of lasting.new).daemon;
         })) }
     ensures err { IfErr result (NotCounted (events_from broke line
         (lines_in (option_copied rest.entry)))) }
