@@ -67,12 +67,12 @@ grown_to lasts turn = record {
 abbrev lanes_of : List (Option Holder) → List (Option Holder) → List (Option Holder) → List (Option Holder) → Lasts
 lanes_of tokens walkers systems daemon = record { tokens = tokens; walkers = walkers; systems = systems; daemon = daemon }
 
-lanes_same : (a a' b b' c c' d d' : List (Option Holder)) → a ≡ a' → b ≡ b' → c ≡ c' → d ≡ d' → lanes_of a b c d ≡ lanes_of a' b' c' d'
-lanes_same a a' b b' c c' d d' e f g h =
+lanes_same : (a a2 b b2 c c2 d d2 : List (Option Holder)) → a ≡ a2 → b ≡ b2 → c ≡ c2 → d ≡ d2 → lanes_of a b c d ≡ lanes_of a2 b2 c2 d2
+lanes_same a a2 b b2 c c2 d d2 e f g h =
     ap (λ (t : List (Option Holder)). lanes_of t b c d) e
-    ∙ ap (λ (t : List (Option Holder)). lanes_of a' t c d) f
-    ∙ ap (λ (t : List (Option Holder)). lanes_of a' b' t d) g
-    ∙ ap (λ (t : List (Option Holder)). lanes_of a' b' c' t) h
+    ∙ ap (λ (t : List (Option Holder)). lanes_of a2 t c d) f
+    ∙ ap (λ (t : List (Option Holder)). lanes_of a2 b2 t d) g
+    ∙ ap (λ (t : List (Option Holder)). lanes_of a2 b2 c2 t) h
 
 by_both : (lasts : Lasts) (a b : Turn) → by_changes (by_changes lasts a) b ≡ by_changes lasts (both a b)
 by_both lasts a b =
@@ -246,12 +246,12 @@ pub record Begins (number : ℕ) (all rows : List Viewed) : Type 0 where
   pub later : Turn
   pub parted : of_rows number all ≡ both (of_rows number rows) later
 
-turn_same : (a a' b b' c c' d d' : List Change) → a ≡ a' → b ≡ b' → c ≡ c' → d ≡ d' → turn_of a b c d ≡ turn_of a' b' c' d'
-turn_same a a' b b' c c' d d' e f g h =
+turn_same : (a a2 b b2 c c2 d d2 : List Change) → a ≡ a2 → b ≡ b2 → c ≡ c2 → d ≡ d2 → turn_of a b c d ≡ turn_of a2 b2 c2 d2
+turn_same a a2 b b2 c c2 d d2 e f g h =
     ap (λ (t : List Change). turn_of t b c d) e
-    ∙ ap (λ (t : List Change). turn_of a' t c d) f
-    ∙ ap (λ (t : List Change). turn_of a' b' t d) g
-    ∙ ap (λ (t : List Change). turn_of a' b' c' t) h
+    ∙ ap (λ (t : List Change). turn_of a2 t c d) f
+    ∙ ap (λ (t : List Change). turn_of a2 b2 t d) g
+    ∙ ap (λ (t : List Change). turn_of a2 b2 c2 t) h
 
 both_parted : (a b c : Turn) → both a (both b c) ≡ both (both a b) c
 both_parted a b c =

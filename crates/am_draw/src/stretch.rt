@@ -252,12 +252,7 @@ fn put_system_bars<W: Write>(
 }
 
 /// Puts out the bar of the dead daemon.
-fn put_daemon_bars<W: Write>(
-    output: &mut Output,
-    until: &Until,
-    lasting: &Lasting,
-    writer: &mut W,
-)
+fn put_daemon_bars<W: Write>(output: &mut Output, until: &Until, lasting: &Lasting, writer: &mut W)
     requires rows { until.now.number - until.now.skipped ≤ most_rows }
     requires more { until.now.more ≤ 13 }
     ensures { Puts output.old output.new (daemon_bars until.now (lasts_of lasting.now))
