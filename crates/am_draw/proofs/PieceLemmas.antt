@@ -34,7 +34,8 @@ tail_some : (n : ℕ) (bytes : List ℕ) → if_some (suc n) bytes ≡ bytes
 tail_some n bytes = rw (lt-ltb 0 (suc n) (omega arith)) refl
 
 pub tail_owed : (line : ℕ) (bytes : List ℕ) (rows : List Viewed) → EndsAt line rows → owed_for (tail_pieces bytes rows) ≡ owed_by line (if_some (length rows) bytes)
-tail_owed line bytes [] h = rw h (owed_one (record { line = 1; bytes = empty_picture }))
+tail_owed line bytes [] h =
+    owed_one (record { line = 1; bytes = empty_picture }) ∙ ap (λ (n : ℕ). owed_by n empty_picture) (sym h)
 tail_owed line bytes (row ∷ []) h = rw h (owed_one (record { line = row.asked.line; bytes = bytes }))
 tail_owed line bytes (row ∷ next ∷ rows) h =
     tail_owed line bytes (next ∷ rows) h

@@ -126,7 +126,8 @@ fn count_opened(alloc: Global, opened: Opened<'_>) -> Result<Counted, ScriptFaul
         (events_from opened.entry.broke opened.entry.line
         (lines_in (option_copied opened.entry.rest))) counted.size) }
     ensures lasts { IfOk result (λ counted. lasts_of counted.lasting
-        ≡ nothing_lasts counted.size.tokens counted.size.walkers) }
+        ≡ nothing_lasts counted.size.tokens counted.size.walkers counted.size.systems
+        counted.size.daemon) }
     ensures err { IfErr result (NotCounted (events_from opened.entry.broke opened.entry.line
         (lines_in (option_copied opened.entry.rest)))) }
 {

@@ -1,6 +1,6 @@
 //! The marks of a picture, as elements of SVG.
 
-ghost use Rattle.std.specs.Prelude.{◌≡◌, ◌≤◌, ◌++◌, codes, decimal};
+ghost use Rattle.std.specs.Prelude.{◌≡◌, ◌≤◌, ◌+◌, ◌++◌, codes, decimal};
 ghost use Rattle.am_script.specs.{Puts};
 ghost use Rattle.am_draw.specs.Marks.{at_text, stamp, span_text, stroke, reach_text, stretch, opening, label, lane_x, shift, daemon_x};
 ghost use Rattle.am_draw.specs.Words.{words};

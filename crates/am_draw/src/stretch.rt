@@ -6,13 +6,11 @@ ghost use Rattle.am_draw.specs.Lasting.{lasts_of};
 ghost use Rattle.am_draw.specs.Parts.{most_rows};
 ghost use Rattle.am_draw.specs.Stretches.{walker_columns, token_columns, system_columns, narrow_columns, moved, reach, bar, lane_bar, lane_bars, token_bars, walker_bars, system_bars, daemon_bars, living_bars, ended_bars, all_bars};
 ghost use Rattle.am_draw.specs.Marks.{first_token, first_system};
-ghost use Rattle.am_lanes.specs.declared.holder.Ending.TheVariants.{Of, In};
 
 use crate::lasting::Lasting;
 use crate::marks::{LaneKind, daemon_x, lane_x, put_stretch, shift};
 use crate::part::{titles_before, wide};
 use am_lanes::{Ending, Holder, Lanes, Look, ends};
-use am_names::FsId;
 use am_script::output::Output;
 use am_world::{Event, Obs};
 use std::io::Write;
@@ -291,24 +289,24 @@ pub(crate) fn put_living_bars<W: Write>(
     }
 }
 
-/// Puts out the bars that end where a file system becomes catatonic.
+/// Puts out the bars that end where a file system becomes catatonic: of its tokens, and its own.
 #[tactic(auto, using(am_script::proofs::Pieces::puts_two))]
 fn put_catatonic_bars<W: Write>(
     output: &mut Output,
+    tokens: &Ending,
+    system: &Ending,
     until: &Until,
     lasting: &Lasting,
-    fs: FsId,
     writer: &mut W,
 )
     requires rows { until.now.number - until.now.skipped ≤ most_rows }
     requires more { until.now.more ≤ 13 }
-    ensures { Puts output.old output.new (token_bars (In fs) until.now (lasts_of lasting.now)
-        ++ system_bars (Of fs) until.now (lasts_of lasting.now)) (W.contents writer.old)
+    ensures { Puts output.old output.new (token_bars tokens.now until.now (lasts_of lasting.now)
+        ++ system_bars system.now until.now (lasts_of lasting.now)) (W.contents writer.old)
         (W.contents writer.new) }
 {
-    put_token_bars(output, &Ending::In { fs }, until, lasting, writer);
-    let ending = Ending::Of { number: fs.0 };
-    put_system_bars(output, &ending, until, lasting, writer);
+    put_token_bars(output, tokens, until, lasting, writer);
+    put_system_bars(output, system, until, lasting, writer);
 }
 
 /// Puts out the bars that end where this is seen.
@@ -338,7 +336,11 @@ pub(crate) fn put_ended_bars<W: Write>(
             let ending = Ending::Of { number: token.0 };
             put_token_bars(output, &ending, until, lasting, writer)
         }
-        Obs::Catatonic { fs } => put_catatonic_bars(output, until, lasting, *fs, writer),
+        Obs::Catatonic { fs } => {
+            let tokens = Ending::In { fs: *fs };
+            let system = Ending::Of { number: fs.0 };
+            put_catatonic_bars(output, &tokens, &system, until, lasting, writer)
+        }
         Obs::Released { walker, .. } => {
             let ending = Ending::Of { number: walker.0 };
             put_walker_bars(output, &ending, until, lasting, writer)
