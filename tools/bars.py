@@ -6,7 +6,8 @@ usage: tools/bars.py [FILE..]    those of these scripts; without them of all scr
 
 In the row of each event stands, just below its middle, a bar in the lane of each walker that waits in the world which
 the script leaves behind that event, one for each that is inside of a mount, and one for each open token, as `world`
-tells them, and no other. Who stands in a lane is told where the bar begins. No two bars of a lane overlap, and no bar
+tells them, and no other; so it is of each autofs that is mounted somewhere and catatonic. Who stands in a lane is told
+where the bar begins. While the daemon is drawn dead, it holds no attachment. No two bars of a lane overlap, and no bar
 stands beside the lanes of its kind. The last line counts the scripts.
 """
 
@@ -21,9 +22,9 @@ SVG = "{http://www.w3.org/2000/svg}"
 TOP, ROW, MIDDLE = 118, 26, 13
 # Each so many rows the titles stand once more, and take the height of a row.
 TITLES = 40
-# What is told of a row is probed so far below its middle, where the bar of a walker has begun.
-BELOW = 8
-KINDS = ("waits", "inside", "missing", "expire")
+# What is told of a row is probed so far below its middle, where the bars have begun.
+BELOW = 11
+KINDS = ("waits", "inside", "missing", "expire", "mode", "dead")
 
 
 def played(program, command, script):
@@ -45,7 +46,8 @@ def busy_in(world):
     waits = {int(it) for found in re.findall(r"^# open \d+ waiters ((?:\d+ )*)fs", world, re.M) for it in found.split()}
     inside = {int(it) for it in re.findall(r"^# entered (\d+) mount", world, re.M)}
     tokens = {int(it) for it in re.findall(r"^# open (\d+) ", world, re.M)}
-    return waits, inside, tokens
+    systems = {int(it) for it in re.findall(r"^\d+ \d+ 0:(\d+) .* - autofs \S+ \S*\bfd=-1,", world, re.M)}
+    return waits, inside, tokens, systems
 
 
 def rows_of(root):
@@ -66,7 +68,19 @@ def numbers_of(rows):
                 found["walker", x + 8, y] = int(text.text)
             if text.get("class") == "k":
                 found["token", x, y] = int(text.text)
+            catatonic = re.fullmatch(r"file system (\d+) is catatonic", text.text or "")
+            if catatonic:
+                found["system", y + 10] = int(catatonic[1])
     return found
+
+
+def named_in(numbers, kind, x, begin):
+    """Who is told of where a bar of this kind begins."""
+    if kind == "dead":
+        return 0
+    if kind == "mode":
+        return numbers.get(("system", begin))
+    return numbers.get(("token", x, begin) if kind in KINDS[2:4] else ("walker", x, begin - 6))
 
 
 def bars_of(root):
@@ -80,9 +94,7 @@ def bars_of(root):
             x, reach = map(int, re.fullmatch(r"M(\d+) 13v-(\d+)", path.get("d")).groups())
             end = top + MIDDLE
             begin = end - reach
-            of = "token" if path.get("class") in KINDS[2:] else "walker"
-            mark = begin if of == "token" else begin - 6
-            yield path.get("class"), numbers.get((of, x, mark)), x, begin, end
+            yield path.get("class"), named_in(numbers, path.get("class"), x, begin), x, begin, end
 
 
 def faults_of(program, script):
@@ -97,10 +109,14 @@ def faults_of(program, script):
     for number, part in enumerate(cut_behind_each(script)):
         probe = TOP + ROW * (number + number // TITLES) + MIDDLE + BELOW
         here = [it for it in bars if it[3] <= probe < it[4]]
-        drawn = tuple(sorted(it[1] or 0 for it in here if it[0] in kinds) for kinds in (KINDS[:1], KINDS[1:2], KINDS[2:]))
-        there = tuple(sorted(it) for it in busy_in(played(program, "world", part)))
+        drawn = tuple(sorted(it[1] or 0 for it in here if it[0] in kinds)
+                      for kinds in (KINDS[:1], KINDS[1:2], KINDS[2:4], KINDS[4:5]))
+        world = played(program, "world", part)
+        there = tuple(sorted(it) for it in busy_in(world))
         if drawn != there:
-            yield f"behind event {number + 1} waiters, walkers inside and tokens are {there}, and drawn are {drawn}"
+            yield f"behind event {number + 1} waiters, walkers inside, tokens and catatonic are {there}, and drawn are {drawn}"
+        if any(it[0] == "dead" for it in here) and "\n# held " in world:
+            yield f"behind event {number + 1} the daemon holds an attachment, and it is drawn as dead"
 
 
 def main(names):

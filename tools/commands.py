@@ -240,7 +240,7 @@ FAULTS = [
       for line, shown, column, expected in HOSTILE),
     *(([command], head, b"", placed(*row)) for command in ("script", "trace", "draw", "world") for head, row in BAD_HEADS),
     *(([command], b"events\nwalk 7 0 auto 1 room\n", b"", placed(2, b"BadEvent", b"walk 7 0 auto 1 room", 10, A_PATH))
-      for command in ("script", "trace", "draw", "world")),
+      for command in ("script", "trace", "world")),
     (["script"], *(JOINED[0], b"", JOINED[1])), (["world"], *(JOINED[0], b"", JOINED[1])),
     (["script"], *(TOO_LONG[0], b"", TOO_LONG[1])), (["trace"], *(TOO_LONG[0], b"", TOO_LONG[1])),
     *((["script"], b"events\n" + line + b"\n", b"", fault(2, b"BadEvent") + below) for line, below in CUT),
@@ -292,7 +292,12 @@ PICTURES = [
     (["--from", "2"], (False, True), b"1 of 2 events"),
     (["--to", "1"], (True, False), b"1 of 2 events"),
     (["--from", "2", "--to", "2"], (False, True), b"1 of 2 events"),
-    (["--from", "4294967295"], (False, False), b"0 of 2 events"),
+    (["--from", "4294967295"], (False, False), b"0 of 2 events: none is drawn"),
+]
+# Scripts of which no event is played, with the status and what is told.
+UNPLAYED = [
+    (b"", 0, b""), (b"# nothing\n", 0, b""), (b"master\nend\n", 0, b""), (b"events", 0, b""), (b"events\n# none\n", 0, b""),
+    (b"events\nwalk 7 0 auto 1 room\n", 1, placed(2, b"BadEvent", b"walk 7 0 auto 1 room", 10, A_PATH)),
 ]
 # Commands that write help or the version.
 HELPFUL = (["help"], ["--help"], ["help", "draw"], ["script", "-h"], ["--version"])
@@ -306,6 +311,9 @@ MUTE = ((["script"], SHORT + b"x\n"), (["trace"], b"events\nx\n"), (["judge"], b
 LOSSES = [
     ("trace", SHORT, 100, 0, 2), ("trace", SHORT, 7, 1, 2), ("trace", SHORT, 100, 39, 2), ("trace", SHORT, 7, 40, 3),
     ("trace", SHORT, 1, 44, 3), ("draw", SHORT, 100, 0, 2), ("draw", SHORT, 1, 1, 2), ("draw", SHORT, 100, 6000, 2),
+    ("draw", b"", 100, 0, 1), ("draw", b"events
+", 100, 6000, 1), ("draw", b"events
+", 1, 1, 1),
     ("script", SHORT, 100, 0, 2), ("script", SHORT, 1, 8, 3),
     ("help", b"", 5000, 0, None), ("help", b"", 100, 250, None), ("help", b"", 1, 1000, None),
     ("--version", b"", 100, 0, None), ("--version", b"", 7, 15, None),
@@ -412,6 +420,13 @@ def is_picture(program, words, shown, told):
     names = (b">mount 0 /a&lt;b</text>", b">leave 1</text>")
     return (status, said) == (0, b"") and wrote.startswith(b"<svg ") and wrote.endswith(b"\n</svg>\n") \
         and tuple(it in wrote for it in names) == shown and b">" + told + b"<" in wrote
+
+
+def is_unplayed(program, given, status, told):
+    """Whether there is a picture that says that no event was played, the same of each such script."""
+    wrote = program.run(["draw"], b"")[1]
+    return program.run(["draw", "--from", "2"], given) == (status, wrote, told) and wrote.startswith(b"<svg ") \
+        and wrote.endswith(b"\n</svg>\n") and wrote.count(b">no event was played<") == 2
 
 
 def is_lost(program, little, row):
@@ -538,6 +553,8 @@ def checks(program):
             program, ["script"], b"events\nwalk 7 0 auto 1 room\n", room)
     for row in PICTURES:
         yield f"a picture: {' '.join(row[0])}", lambda row=row: is_picture(program, *row)
+    for row in UNPLAYED:
+        yield f"a picture of no event: {row[0]}", lambda row=row: is_unplayed(program, *row)
     if not program.is_proved:
         print("the program isn't proved: nothing is loaded before it")
         return

@@ -13,7 +13,7 @@ use Rattle.am_script.specs.{Numbered}
 use Rattle.am_lanes.specs.{Change, HaveBars, Holder, bar_behind, behind_all, behind_change, grown_by, with_room}
 use Rattle.am_lanes.proofs.ToldLemmas.{all_told}
 use Rattle.am_draw.specs.{Lasts, Part, Size, Viewed, ViewedRun, acted, added, added_behind, asked_in, behind, changed, first_lasts, is_out_of_memory, is_past, lasts_behind, next_lasts, nothing_lasts, roomed, roomed_for, seen_added, seen_behind}
-use Rattle.am_draw.specs.Changes.{BarsAreSeen, NobodyLosesABar, actor_changes, changes_of_tokens, changes_of_walkers, token_changes, walker_changes}
+use Rattle.am_draw.specs.Changes.{BarsAreSeen, NobodyLosesABar, actor_changes, changes_of_daemon, changes_of_systems, changes_of_tokens, changes_of_walkers, daemon_changes, living_changes, system_changes, token_changes, walker_changes}
 
 -- ---- changes one after another
 
@@ -25,27 +25,90 @@ grown_both : (lanes : List (Option Holder)) (a b : List Change) → grown_by lan
 grown_both lanes [] b = refl
 grown_both lanes (change ∷ a) b = grown_both (behind_change (with_room lanes change) change) a b
 
+-- what changes in the lanes of each kind
+pub record Turn : Type 0 where
+  pub tokens : List Change
+  pub walkers : List Change
+  pub systems : List Change
+  pub daemon : List Change
+
+-- these changes
+abbrev turn_of : List Change → List Change → List Change → List Change → Turn
+turn_of tokens walkers systems daemon = record { tokens = tokens; walkers = walkers; systems = systems; daemon = daemon }
+
+-- the one, and then the other
+abbrev pub both : Turn → Turn → Turn
+both a b = record {
+  tokens = a.tokens ++ b.tokens;
+  walkers = a.walkers ++ b.walkers;
+  systems = a.systems ++ b.systems;
+  daemon = a.daemon ++ b.daemon;
+}
+
 -- the lanes behind these changes
-abbrev pub by_changes : Lasts → List Change → List Change → Lasts
-by_changes lasts tokens walkers = record { tokens = behind_all lasts.tokens tokens; walkers = behind_all lasts.walkers walkers }
+abbrev pub by_changes : Lasts → Turn → Lasts
+by_changes lasts turn = record {
+  tokens = behind_all lasts.tokens turn.tokens;
+  walkers = behind_all lasts.walkers turn.walkers;
+  systems = behind_all lasts.systems turn.systems;
+  daemon = behind_all lasts.daemon turn.daemon;
+}
 
 -- and where lanes are added
-abbrev pub grown_to : Lasts → List Change → List Change → Lasts
-grown_to lasts tokens walkers = record { tokens = grown_by lasts.tokens tokens; walkers = grown_by lasts.walkers walkers }
+abbrev pub grown_to : Lasts → Turn → Lasts
+grown_to lasts turn = record {
+  tokens = grown_by lasts.tokens turn.tokens;
+  walkers = grown_by lasts.walkers turn.walkers;
+  systems = grown_by lasts.systems turn.systems;
+  daemon = grown_by lasts.daemon turn.daemon;
+}
 
-by_both : (lasts : Lasts) (a b c d : List Change) → by_changes (by_changes lasts a c) b d ≡ by_changes lasts (a ++ b) (c ++ d)
-by_both lasts a b c d =
-    ap (λ (t : List (Option Holder)). (record { tokens = t; walkers = behind_all (behind_all lasts.walkers c) d })) (sym (behind_both lasts.tokens a b))
-    ∙ ap (λ (t : List (Option Holder)). (record { tokens = behind_all lasts.tokens (a ++ b); walkers = t })) (sym (behind_both lasts.walkers c d))
+-- these lanes
+abbrev lanes_of : List (Option Holder) → List (Option Holder) → List (Option Holder) → List (Option Holder) → Lasts
+lanes_of tokens walkers systems daemon = record { tokens = tokens; walkers = walkers; systems = systems; daemon = daemon }
 
-grown_of_both : (lasts : Lasts) (a b c d : List Change) → grown_to (grown_to lasts a c) b d ≡ grown_to lasts (a ++ b) (c ++ d)
-grown_of_both lasts a b c d =
-    ap (λ (t : List (Option Holder)). (record { tokens = t; walkers = grown_by (grown_by lasts.walkers c) d })) (sym (grown_both lasts.tokens a b))
-    ∙ ap (λ (t : List (Option Holder)). (record { tokens = grown_by lasts.tokens (a ++ b); walkers = t })) (sym (grown_both lasts.walkers c d))
+lanes_same : (a a2 b b2 c c2 d d2 : List (Option Holder)) → a ≡ a2 → b ≡ b2 → c ≡ c2 → d ≡ d2 → lanes_of a b c d ≡ lanes_of a2 b2 c2 d2
+lanes_same a a2 b b2 c c2 d d2 e f g h =
+    ap (λ (t : List (Option Holder)). lanes_of t b c d) e
+    ∙ ap (λ (t : List (Option Holder)). lanes_of a2 t c d) f
+    ∙ ap (λ (t : List (Option Holder)). lanes_of a2 b2 t d) g
+    ∙ ap (λ (t : List (Option Holder)). lanes_of a2 b2 c2 t) h
+
+by_both : (lasts : Lasts) (a b : Turn) → by_changes (by_changes lasts a) b ≡ by_changes lasts (both a b)
+by_both lasts a b =
+    lanes_same _ _ _ _ _ _ _ _
+    (sym (behind_both lasts.tokens a.tokens b.tokens))
+    (sym (behind_both lasts.walkers a.walkers b.walkers))
+    (sym (behind_both lasts.systems a.systems b.systems))
+    (sym (behind_both lasts.daemon a.daemon b.daemon))
+
+grown_of_both : (lasts : Lasts) (a b : Turn) → grown_to (grown_to lasts a) b ≡ grown_to lasts (both a b)
+grown_of_both lasts a b =
+    lanes_same _ _ _ _ _ _ _ _
+    (sym (grown_both lasts.tokens a.tokens b.tokens))
+    (sym (grown_both lasts.walkers a.walkers b.walkers))
+    (sym (grown_both lasts.systems a.systems b.systems))
+    (sym (grown_both lasts.daemon a.daemon b.daemon))
 
 -- ---- an observation
 
-one_changes : (number : ℕ) (lasts : Lasts) (obs : Obs) → changed number lasts obs ≡ by_changes lasts (token_changes number obs) (walker_changes number obs)
+abbrev pub of_obs : ℕ → Obs → Turn
+of_obs number obs = record {
+  tokens = token_changes number obs;
+  walkers = walker_changes number obs;
+  systems = system_changes number obs;
+  daemon = daemon_changes number obs;
+}
+
+abbrev pub of_seen : ℕ → List Obs → Turn
+of_seen number seen = record {
+  tokens = flat_map (token_changes number) seen;
+  walkers = flat_map (walker_changes number) seen;
+  systems = flat_map (system_changes number) seen;
+  daemon = flat_map (daemon_changes number) seen;
+}
+
+one_changes : (number : ℕ) (lasts : Lasts) (obs : Obs) → changed number lasts obs ≡ by_changes lasts (of_obs number obs)
 one_changes number lasts (seen.Queued token attach packet) = refl
 one_changes number lasts (seen.Waits walker token) = refl
 one_changes number lasts (seen.Answered token status) = refl
@@ -61,7 +124,7 @@ one_changes number lasts (seen.Recorded trigger entry) = refl
 one_changes number lasts (seen.Reattached fs attach) = refl
 one_changes number lasts seen.Died = refl
 
-one_grows : (number : ℕ) (lasts : Lasts) (obs : Obs) → changed number (roomed lasts obs) obs ≡ grown_to lasts (token_changes number obs) (walker_changes number obs)
+one_grows : (number : ℕ) (lasts : Lasts) (obs : Obs) → changed number (roomed lasts obs) obs ≡ grown_to lasts (of_obs number obs)
 one_grows number lasts (seen.Queued token attach packet) = refl
 one_grows number lasts (seen.Waits walker token) = refl
 one_grows number lasts (seen.Answered token status) = refl
@@ -77,74 +140,95 @@ one_grows number lasts (seen.Recorded trigger entry) = refl
 one_grows number lasts (seen.Reattached fs attach) = refl
 one_grows number lasts seen.Died = refl
 
-seen_changes : (number : ℕ) (lasts : Lasts) (seen : List Obs) → seen_behind number lasts seen ≡ by_changes lasts (flat_map (token_changes number) seen) (flat_map (walker_changes number) seen)
+seen_changes : (number : ℕ) (lasts : Lasts) (seen : List Obs) → seen_behind number lasts seen ≡ by_changes lasts (of_seen number seen)
 seen_changes number lasts [] = refl
 seen_changes number lasts (obs ∷ seen) =
     seen_changes number (changed number lasts obs) seen
-    ∙ ap (λ (l : Lasts). by_changes l (flat_map (token_changes number) seen) (flat_map (walker_changes number) seen)) (one_changes number lasts obs)
-    ∙ by_both lasts (token_changes number obs) (flat_map (token_changes number) seen) (walker_changes number obs) (flat_map (walker_changes number) seen)
+    ∙ ap (λ (l : Lasts). by_changes l (of_seen number seen)) (one_changes number lasts obs)
+    ∙ by_both lasts (of_obs number obs) (of_seen number seen)
 
-seen_grows : (number : ℕ) (lasts : Lasts) (seen : List Obs) → seen_added number lasts seen ≡ grown_to lasts (flat_map (token_changes number) seen) (flat_map (walker_changes number) seen)
+seen_grows : (number : ℕ) (lasts : Lasts) (seen : List Obs) → seen_added number lasts seen ≡ grown_to lasts (of_seen number seen)
 seen_grows number lasts [] = refl
 seen_grows number lasts (obs ∷ seen) =
     seen_grows number (changed number (roomed lasts obs) obs) seen
-    ∙ ap (λ (l : Lasts). grown_to l (flat_map (token_changes number) seen) (flat_map (walker_changes number) seen)) (one_grows number lasts obs)
-    ∙ grown_of_both lasts (token_changes number obs) (flat_map (token_changes number) seen) (walker_changes number obs) (flat_map (walker_changes number) seen)
+    ∙ ap (λ (l : Lasts). grown_to l (of_seen number seen)) (one_grows number lasts obs)
+    ∙ grown_of_both lasts (of_obs number obs) (of_seen number seen)
 
 -- ---- an event
 
-actor_acts : (number : ℕ) (lasts : Lasts) (event : Event) → acted number lasts event ≡ by_changes lasts [] (actor_changes number event)
+abbrev pub of_actor : ℕ → Event → Turn
+of_actor number event = record {
+  tokens = [];
+  walkers = actor_changes number event;
+  systems = [];
+  daemon = living_changes event;
+}
+
+-- what an event changes of which this is seen
+abbrev pub of_event : ℕ → Event → List Obs → Turn
+of_event number event seen = both (of_actor number event) (of_seen number seen)
+
+actor_acts : (number : ℕ) (lasts : Lasts) (event : Event) → acted number lasts event ≡ by_changes lasts (of_actor number event)
 actor_acts number lasts (events.Walk walker ns path now pipe) = refl
 actor_acts number lasts (events.Resume walker now pipe) = refl
 actor_acts number lasts (events.Leave walker) = refl
 actor_acts number lasts (events.Expire walker fs now immediate pipe) = refl
+actor_acts number lasts (events.Attach path) = refl
+actor_acts number lasts (events.Reattach fs) = refl
 actor_acts number lasts event = refl
 
-actor_grows : (number : ℕ) (lasts : Lasts) (event : Event) → acted number (roomed_for lasts event) event ≡ grown_to lasts [] (actor_changes number event)
+actor_grows : (number : ℕ) (lasts : Lasts) (event : Event) → acted number (roomed_for lasts event) event ≡ grown_to lasts (of_actor number event)
 actor_grows number lasts (events.Walk walker ns path now pipe) = refl
 actor_grows number lasts (events.Resume walker now pipe) = refl
 actor_grows number lasts (events.Leave walker) = refl
 actor_grows number lasts (events.Expire walker fs now immediate pipe) = refl
+actor_grows number lasts (events.Attach path) = refl
+actor_grows number lasts (events.Reattach fs) = refl
 actor_grows number lasts event = refl
 
-event_changes : (number : ℕ) (lasts : Lasts) (event : Event) (seen : List Obs) → behind number lasts event seen ≡ by_changes lasts (flat_map (token_changes number) seen) (actor_changes number event ++ flat_map (walker_changes number) seen)
+event_changes : (number : ℕ) (lasts : Lasts) (event : Event) (seen : List Obs) → behind number lasts event seen ≡ by_changes lasts (of_event number event seen)
 event_changes number lasts event seen =
     seen_changes number (acted number lasts event) seen
-    ∙ ap (λ (l : Lasts). by_changes l (flat_map (token_changes number) seen) (flat_map (walker_changes number) seen)) (actor_acts number lasts event)
-    ∙ by_both lasts [] (flat_map (token_changes number) seen) (actor_changes number event) (flat_map (walker_changes number) seen)
+    ∙ ap (λ (l : Lasts). by_changes l (of_seen number seen)) (actor_acts number lasts event)
+    ∙ by_both lasts (of_actor number event) (of_seen number seen)
 
-event_grows : (number : ℕ) (lasts : Lasts) (event : Event) (seen : List Obs) → added number lasts event seen ≡ grown_to lasts (flat_map (token_changes number) seen) (actor_changes number event ++ flat_map (walker_changes number) seen)
+event_grows : (number : ℕ) (lasts : Lasts) (event : Event) (seen : List Obs) → added number lasts event seen ≡ grown_to lasts (of_event number event seen)
 event_grows number lasts event seen =
     seen_grows number (acted number (roomed_for lasts event) event) seen
-    ∙ ap (λ (l : Lasts). grown_to l (flat_map (token_changes number) seen) (flat_map (walker_changes number) seen)) (actor_grows number lasts event)
-    ∙ grown_of_both lasts [] (flat_map (token_changes number) seen) (actor_changes number event) (flat_map (walker_changes number) seen)
+    ∙ ap (λ (l : Lasts). grown_to l (of_seen number seen)) (actor_grows number lasts event)
+    ∙ grown_of_both lasts (of_actor number event) (of_seen number seen)
 
 -- ---- all events
 
-all_grow : (number : ℕ) (lasts : Lasts) (rows : List Viewed) → added_behind number lasts rows ≡ grown_to lasts (changes_of_tokens number rows) (changes_of_walkers number rows)
+-- what these events change, of which the first has this number
+abbrev pub of_rows : ℕ → List Viewed → Turn
+of_rows number rows = record {
+  tokens = changes_of_tokens number rows;
+  walkers = changes_of_walkers number rows;
+  systems = changes_of_systems number rows;
+  daemon = changes_of_daemon number rows;
+}
+
+all_grow : (number : ℕ) (lasts : Lasts) (rows : List Viewed) → added_behind number lasts rows ≡ grown_to lasts (of_rows number rows)
 all_grow number lasts [] = refl
 all_grow number lasts (row ∷ rows) =
     let here : Lasts = added number lasts row.asked.event row.seen in
-    let tokens : List Change = flat_map (token_changes number) row.seen in
-    let walkers : List Change = actor_changes number row.asked.event ++ flat_map (walker_changes number) row.seen in
     all_grow (number + 1) here rows
-    ∙ ap (λ (l : Lasts). grown_to l (changes_of_tokens (number + 1) rows) (changes_of_walkers (number + 1) rows)) (event_grows number lasts row.asked.event row.seen)
-    ∙ grown_of_both lasts tokens (changes_of_tokens (number + 1) rows) walkers (changes_of_walkers (number + 1) rows)
+    ∙ ap (λ (l : Lasts). grown_to l (of_rows (number + 1) rows)) (event_grows number lasts row.asked.event row.seen)
+    ∙ grown_of_both lasts (of_event number row.asked.event row.seen) (of_rows (number + 1) rows)
 
 not_past : (part : Part) (number more : ℕ) → is_past part (number + more) ≡ false → is_past part number ≡ false
 not_past part number more e = grind (arith, nat_tests, e)
 
-all_change : (part : Part) (number : ℕ) (lasts : Lasts) (rows : List Viewed) → is_past part (number + length rows) ≡ false → lasts_behind part (number + 1) lasts rows ≡ by_changes lasts (changes_of_tokens (number + 1) rows) (changes_of_walkers (number + 1) rows)
+all_change : (part : Part) (number : ℕ) (lasts : Lasts) (rows : List Viewed) → is_past part (number + length rows) ≡ false → lasts_behind part (number + 1) lasts rows ≡ by_changes lasts (of_rows (number + 1) rows)
 all_change part number lasts [] e = refl
 all_change part number lasts (row ∷ rows) e =
-    let tokens : List Change = flat_map (token_changes (number + 1)) row.seen in
-    let walkers : List Change = actor_changes (number + 1) row.asked.event ++ flat_map (walker_changes (number + 1)) row.seen in
     let last : is_past part (number + 1 + length rows) ≡ false = subst (λ (n : ℕ). is_past part n ≡ false) (omega arith) e in
     let here : next_lasts part (number + 1) lasts row.asked.event row.seen ≡ behind (number + 1) lasts row.asked.event row.seen =
     ap (λ (b : Bool). if b then lasts else behind (number + 1) lasts row.asked.event row.seen) (not_past part (number + 1) (length rows) last) in
     all_change part (number + 1) (next_lasts part (number + 1) lasts row.asked.event row.seen) rows last
-    ∙ ap (λ (l : Lasts). by_changes l (changes_of_tokens (number + 1 + 1) rows) (changes_of_walkers (number + 1 + 1) rows)) (here ∙ event_changes (number + 1) lasts row.asked.event row.seen)
-    ∙ by_both lasts tokens (changes_of_tokens (number + 1 + 1) rows) walkers (changes_of_walkers (number + 1 + 1) rows)
+    ∙ ap (λ (l : Lasts). by_changes l (of_rows (number + 1 + 1) rows)) (here ∙ event_changes (number + 1) lasts row.asked.event row.seen)
+    ∙ by_both lasts (of_event (number + 1) row.asked.event row.seen) (of_rows (number + 1 + 1) rows)
 
 -- ---- the events that are drawn come first of those that were counted
 
@@ -159,18 +243,26 @@ step_same s event a b x y m n (inr p) (inr q) e f = (p.shown ∙ sym q.shown, p.
 
 -- what all events change begins with what these do
 pub record Begins (number : ℕ) (all rows : List Viewed) : Type 0 where
-  pub tokens : List Change
-  pub walkers : List Change
-  pub of_tokens : changes_of_tokens number all ≡ changes_of_tokens number rows ++ tokens
-  pub of_walkers : changes_of_walkers number all ≡ changes_of_walkers number rows ++ walkers
+  pub later : Turn
+  pub parted : of_rows number all ≡ both (of_rows number rows) later
+
+turn_same : (a a2 b b2 c c2 d d2 : List Change) → a ≡ a2 → b ≡ b2 → c ≡ c2 → d ≡ d2 → turn_of a b c d ≡ turn_of a2 b2 c2 d2
+turn_same a a2 b b2 c c2 d d2 e f g h =
+    ap (λ (t : List Change). turn_of t b c d) e
+    ∙ ap (λ (t : List Change). turn_of a2 t c d) f
+    ∙ ap (λ (t : List Change). turn_of a2 b2 t d) g
+    ∙ ap (λ (t : List Change). turn_of a2 b2 c2 t) h
+
+both_parted : (a b c : Turn) → both a (both b c) ≡ both (both a b) c
+both_parted a b c =
+    turn_same _ _ _ _ _ _ _ _
+    (sym (append_assoc a.tokens b.tokens c.tokens))
+    (sym (append_assoc a.walkers b.walkers c.walkers))
+    (sym (append_assoc a.systems b.systems c.systems))
+    (sym (append_assoc a.daemon b.daemon c.daemon))
 
 begins : (number : ℕ) (start ends now : State) (all rows : List Viewed) (left : List Numbered) → ViewedRun start all ends → ViewedRun start rows now → asked_in all ≡ asked_in rows ++ left → Begins number all rows
-begins number start ends now all [] left r q e = record {
-  tokens = changes_of_tokens number all;
-  walkers = changes_of_walkers number all;
-  of_tokens = refl;
-  of_walkers = refl;
-}
+begins number start ends now all [] left r q e = record { later = of_rows number all; parted = refl }
 begins number start ends now [] (row ∷ rows) left r q e = absurd cc
 begins number start ends now (a ∷ all) (row ∷ rows) left r q e =
     let asked : a.asked ≡ row.asked = cc e in
@@ -179,20 +271,14 @@ begins number start ends now (a ∷ all) (row ∷ rows) left r q e =
     let step : Step start row.asked.event a.answer a.seen r.0 = subst (λ (o : Event). Step start o a.answer a.seen r.0) event r.1.step in
     let same = step_same start row.asked.event a.answer row.answer a.seen row.seen r.0 q.0 step q.1.step r.1.has_room q.1.has_room in
     let later = begins (number + 1) q.0 ends now all rows left (subst (λ (s : State). ViewedRun s all ends) same.1 r.2) q.2 rest in
-    let tokens : List Change = flat_map (token_changes number) row.seen in
-    let walkers : List Change = actor_changes number row.asked.event ++ flat_map (walker_changes number) row.seen in
+    let here : Turn = of_event number row.asked.event row.seen in
     record {
-      tokens = later.tokens;
-      walkers = later.walkers;
-      of_tokens =
-          ap (λ (x : List Obs). flat_map (token_changes number) x ++ changes_of_tokens (number + 1) all) same.0
-          ∙ ap (λ (t : List Change). tokens ++ t) later.of_tokens
-          ∙ sym (append_assoc tokens (changes_of_tokens (number + 1) rows) later.tokens);
-      of_walkers =
-          ap (λ (x : List Obs). (actor_changes number a.asked.event ++ flat_map (walker_changes number) x) ++ changes_of_walkers (number + 1) all) same.0
-          ∙ ap (λ (o : Event). (actor_changes number o ++ flat_map (walker_changes number) row.seen) ++ changes_of_walkers (number + 1) all) event
-          ∙ ap (λ (t : List Change). walkers ++ t) later.of_walkers
-          ∙ sym (append_assoc walkers (changes_of_walkers (number + 1) rows) later.walkers);
+      later = later.later;
+      parted =
+          ap (λ (x : List Obs). both (of_event number a.asked.event x) (of_rows (number + 1) all)) same.0
+          ∙ ap (λ (o : Event). both (of_event number o row.seen) (of_rows (number + 1) all)) event
+          ∙ ap (both here) later.parted
+          ∙ both_parted here (of_rows (number + 1) rows) later.later;
     }
 
 -- the lanes behind them have these bars
@@ -205,10 +291,13 @@ told rows later whole count e wide =
 pub nobody_loses_a_bar : NobodyLosesABar
 nobody_loses_a_bar part start ends now all rows left r q e size past =
     let first = begins 1 start ends now all rows left r q e in
-    let grown : added_behind 1 (nothing_lasts 0 0) all ≡ grown_to (nothing_lasts 0 0) (changes_of_tokens 1 all) (changes_of_walkers 1 all) = all_grow 1 (nothing_lasts 0 0) all in
+    let nothing : Lasts = nothing_lasts 0 0 0 0 in
+    let grown : added_behind 1 nothing all ≡ grown_to nothing (of_rows 1 all) = all_grow 1 nothing all in
     let lasts = all_change part 0 (first_lasts part) rows (subst (λ (n : ℕ). is_past part n ≡ false) (omega arith) past) in
     subst (λ (l : Lasts). BarsAreSeen l rows) (sym lasts)
     (record {
-      tokens = told (changes_of_tokens 1 rows) first.tokens (changes_of_tokens 1 all) part.size.tokens first.of_tokens (ap (λ (s : Size). s.tokens) size ∙ ap (λ (l : Lasts). length l.tokens) grown);
-      walkers = told (changes_of_walkers 1 rows) first.walkers (changes_of_walkers 1 all) part.size.walkers first.of_walkers (ap (λ (s : Size). s.walkers) size ∙ ap (λ (l : Lasts). length l.walkers) grown);
+      tokens = told (changes_of_tokens 1 rows) first.later.tokens (changes_of_tokens 1 all) part.size.tokens (ap (λ (t : Turn). t.tokens) first.parted) (ap (λ (s : Size). s.tokens) size ∙ ap (λ (l : Lasts). length l.tokens) grown);
+      walkers = told (changes_of_walkers 1 rows) first.later.walkers (changes_of_walkers 1 all) part.size.walkers (ap (λ (t : Turn). t.walkers) first.parted) (ap (λ (s : Size). s.walkers) size ∙ ap (λ (l : Lasts). length l.walkers) grown);
+      systems = told (changes_of_systems 1 rows) first.later.systems (changes_of_systems 1 all) part.size.systems (ap (λ (t : Turn). t.systems) first.parted) (ap (λ (s : Size). s.systems) size ∙ ap (λ (l : Lasts). length l.systems) grown);
+      daemon = told (changes_of_daemon 1 rows) first.later.daemon (changes_of_daemon 1 all) part.size.daemon (ap (λ (t : Turn). t.daemon) first.parted) (ap (λ (s : Size). s.daemon) size ∙ ap (λ (l : Lasts). length l.daemon) grown);
     })

@@ -10,7 +10,13 @@ use Rattle.am_draw.proofs.RunLemmas.{asked_push, run_more}
 
 -- so many events, and these lanes
 abbrev pub sized : ℕ → Lasts → Size
-sized events lasts = record { events = events; walkers = length lasts.walkers; tokens = length lasts.tokens }
+sized events lasts = record {
+  events = events;
+  walkers = length lasts.walkers;
+  tokens = length lasts.tokens;
+  systems = length lasts.systems;
+  daemon = length lasts.daemon;
+}
 
 -- of all events these are left, and those before are counted
 pub record Counting (start : State) (all left : Told) (events : ℕ) (lasts : Lasts) (now : State) : Type 0 where
@@ -20,7 +26,7 @@ pub record Counting (start : State) (all left : Told) (events : ℕ) (lasts : La
   pub counted : events ≡ length rows
   pub adds : lasts ≡ lanes_for rows
 
-pub counting_none : (start : State) (all : Told) (lasts : Lasts) → lasts ≡ nothing_lasts 0 0 → Counting start all all 0 lasts start
+pub counting_none : (start : State) (all : Told) (lasts : Lasts) → lasts ≡ nothing_lasts 0 0 0 0 → Counting start all all 0 lasts start
 counting_none start all lasts e = record { rows = []; parted = refl; run = refl; counted = refl; adds = e }
 
 pub counting_more : (start : State) (all left more : Told) (events number : ℕ) (lasts next_lasts : Lasts) (s next : State) (asked : Numbered) → number ≡ events + 1 → left ≡ told_by (Ok (Some asked.event)) asked.line more → IsCounted number s asked next lasts next_lasts → Counting start all left events lasts s → Counting start all more (events + 1) next_lasts next
@@ -36,7 +42,7 @@ counting_more start all left more events number lasts next_lasts s next asked n 
           counted.adds
           ∙ ap (λ (n : ℕ). added n lasts row.asked.event row.seen) is
           ∙ ap (λ (l : Lasts). added (1 + length h.rows) l row.asked.event row.seen) h.adds
-          ∙ sym (lanes_push 1 (nothing_lasts 0 0) h.rows row);
+          ∙ sym (lanes_push 1 (nothing_lasts 0 0 0 0) h.rows row);
     }
 
 -- all are counted

@@ -8,7 +8,7 @@ use Rattle.am_script.specs.{ScriptFault, ScriptFaultKind, Summary, lines_of, Ope
 use Rattle.am_script.specs.declared.visit.Opened.{Opened}
 use Rattle.am_script.specs.Script.{Script}
 use Rattle.am_views.proofs.WholeInputs.{was_read, head_stops, told_in}
-use Rattle.am_draw.specs.{AllDrawn, DrawStops, DrawnFrom, DrawsFrom, DrawsInput, IsSizeOf, IsSizeOfScript, NotCounted, Size, StopsDrawing}
+use Rattle.am_draw.specs.{AllDrawn, DrawStops, DrawnFrom, DrawsFrom, DrawsInput, IsSizeOf, IsSizeOfScript, NotCounted, NothingEnds, NothingStops, Size, StopsDrawing}
 use Rattle.am_world.specs.Capacity.{state_of}
 
 -- ---- what was read
@@ -35,23 +35,25 @@ input_err first last ro rn wo wn text broke (Err fault) read end kind h = record
 
 -- ---- a head that has no events behind it
 
-pub from_none : (first last : ℕ) (wo : Option (List ℕ)) (text : List ℕ) (broke : Option ScriptFaultKind) → OpenedAs (broken broke text) (script_of broke text) None → DrawsFrom first last broke text wo wo (Ok (record { lines = 0; refused = 0 }))
-from_none first last wo text broke h =
-    (h.1, subst (λ (s : Script). DrawnFrom first last s.opening s.told wo wo (record { lines = 0; refused = 0 })) (sym h.0) (record { no_fault = refl; written = Appends-nil wo; lines = refl; refused = refl }))
+pub from_nothing : (first last : ℕ) (wo wn : Option (List ℕ)) (text : List ℕ) (broke : Option ScriptFaultKind) (r : Result Summary ScriptFault) → OpenedAs (broken broke text) (script_of broke text) None → NothingEnds wo wn r → DrawsFrom first last broke text wo wn r
+from_nothing first last wo wn text broke (Ok summary) h ends =
+    (h.1, subst (λ (s : Script). DrawnFrom first last s.opening s.told wo wn summary) (sym h.0) ends)
+from_nothing first last wo wn text broke (Err fault) h ends =
+    inr (inl (subst (λ (s : Script). NothingStops s wo wn fault) (sym h.0) ends))
 
 pub from_head : (first last : ℕ) (wo : Option (List ℕ)) (text : List ℕ) (broke : Option ScriptFaultKind) (fault : ScriptFault) → NotOpened (length (lines_of (played broke text))) (script_of broke text) fault → DrawsFrom first last broke text wo wo (Err fault)
 from_head first last wo text broke fault h = inl (head_stops (length (lines_of (played broke text))) (script_of broke text) wo fault h)
 
 -- memory ran out while its events were counted
 pub from_count : (first last : ℕ) (wo : Option (List ℕ)) (text : List ℕ) (broke : Option ScriptFaultKind) (opened : Opened) (fault : ScriptFault) → OpenedAs (broken broke text) (script_of broke text) (Some opened) → NotCounted (told_in opened) fault → DrawsFrom first last broke text wo wo (Err fault)
-from_count first last wo text broke opened fault h none = inr (record {
+from_count first last wo text broke opened fault h none = inr (inr (record {
   opening = setup_of (state_of opened.world);
   begins = h.opening;
   stops = inr (inr (inr (record {
     not_counted = subst (λ (t : Told). NotCounted t fault) (sym h.told) none;
     written = Appends-nil wo;
   })));
-})
+}))
 
 -- ---- a head with its events
 
@@ -82,10 +84,10 @@ all_from first last opening told opened wo wn summary e world f all =
 pub from_opened : (first last : ℕ) (wo wn : Option (List ℕ)) (text : List ℕ) (broke : Option ScriptFaultKind) (opened : Opened) (r : Result Summary ScriptFault) → OpenedAs (broken broke text) (script_of broke text) (Some opened) → OnOk r (opened.broke ≡ None) → IfOk r (AllDrawn first last (state_of opened.world) (told_in opened) wo wn) → IfErr r (DrawStops first last (state_of opened.world) (told_in opened) wo wn) → DrawsFrom first last broke text wo wn r
 from_opened first last wo wn text broke opened (Ok summary) h whole all stops =
     (sym h.cut ∙ whole, all_from first last (script_of broke text).opening (script_of broke text).told opened wo wn summary h.opening h.world h.told all)
-from_opened first last wo wn text broke opened (Err fault) h whole all stops = inr (record {
+from_opened first last wo wn text broke opened (Err fault) h whole all stops = inr (inr (record {
   opening = setup_of (state_of opened.world);
   begins = h.opening;
   stops =
       subst (λ (s : State). DrawStops first last s (script_of broke text).told wo wn fault) h.world
       (subst (λ (t : Told). DrawStops first last (state_of opened.world) t wo wn fault) (sym h.told) stops);
-})
+}))

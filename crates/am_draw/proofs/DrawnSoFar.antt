@@ -26,14 +26,14 @@ pub record Drawing (part : Part) (start : State) (all left : Told) (lasting : La
   pub lines : summary.lines ≡ length rows
   pub refused : summary.refused ≡ count_by is_refused (answers_in rows)
 
-pub drawing_none : (part : Part) (start : State) (all : Told) (lasting : Lasts) (output : Output) (old : Option (List ℕ)) → lasting ≡ first_lasts part → output.bytes.items ≡ [] → output.marks.items ≡ [] → output.lost ≡ None → Drawing part start all all lasting output old old start (record { lines = 0; refused = 0 })
-drawing_none part start all lasting output old nothing e f g = record {
+pub drawing_none : (part : Part) (start : State) (all : Told) (lasting : Lasts) (output : Output) (old : Option (List ℕ)) → lasting ≡ first_lasts part → output.bytes.items ≡ [] → output.marks.items ≡ [] → output.line ≡ 1 → output.lost ≡ None → Drawing part start all all lasting output old old start (record { lines = 0; refused = 0 })
+drawing_none part start all lasting output old nothing e f line g = record {
   rows = [];
   parted = refl;
   run = refl;
   stands = stands_new output.bytes.items output.marks.items output.line output.lost old e f g;
   lasts = nothing;
-  line = tt;
+  line = line;
   lines = refl;
   refused = refl;
 }

@@ -5,6 +5,7 @@ pub mod DrawInputs
 pub mod DrawnSoFar
 pub mod Draws
 pub mod LostPieces
+pub mod NothingLemmas
 pub mod PieceLemmas
 pub mod RowLemmas
 pub mod RunLemmas

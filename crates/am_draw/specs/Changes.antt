@@ -10,11 +10,11 @@ use Rattle.am_machine.specs.State.{State}
 use Rattle.am_script.specs.{Numbered}
 use Rattle.am_lanes.specs.{Change, HaveBars, Look, bar_behind}
 use Rattle.am_lanes.specs.Changes.Change.{Places, Sights, Ends}
-use Rattle.am_lanes.specs.declared.holder.Look.TheVariants.{Waits, Inside, Idle}
+use Rattle.am_lanes.specs.declared.holder.Look.TheVariants.{Waits, Inside, Idle, Catatonic, Dead}
 use Rattle.am_lanes.specs.declared.holder.Ending.TheVariants.{Of, In}
 use Rattle.am_draw.specs.declared.part.Part.{Part}
 use Rattle.am_draw.specs.Drawn.{Viewed, ViewedRun, asked_in, first_lasts, lasts_behind, size_of}
-use Rattle.am_draw.specs.Lasting.{Lasts, token_look}
+use Rattle.am_draw.specs.Lasting.{Lasts, the_daemon, token_look}
 use Rattle.am_draw.specs.Parts.{is_past}
 
 -- a walker looks so from the event with this number on
@@ -45,6 +45,25 @@ actor_changes number (events.Leave walker) = Sights walker number ∷ []
 actor_changes number (events.Expire walker fs now immediate pipe) = Sights walker number ∷ []
 actor_changes number event = []
 
+-- and in those of file systems
+abbrev pub system_changes : ℕ → Obs → List Change
+system_changes number (seen.Catatonic fs) =
+    Places (record { number = fs; look = Catatonic; since = number }) ∷ []
+system_changes number (seen.Reattached fs attach) = Ends (Of fs) ∷ []
+system_changes number obs = []
+
+-- and in that of the daemon
+abbrev pub daemon_changes : ℕ → Obs → List Change
+daemon_changes number seen.Died =
+    Places (record { number = the_daemon; look = Dead; since = number }) ∷ []
+daemon_changes number obs = []
+
+-- a daemon that attaches lives
+abbrev pub living_changes : Event → List Change
+living_changes (events.Attach path) = Ends (Of the_daemon) ∷ []
+living_changes (events.Reattach fs) = Ends (Of the_daemon) ∷ []
+living_changes event = []
+
 -- what these events change in the lanes of tokens, of which the first has this number
 abbrev pub changes_of_tokens : ℕ → List Viewed → List Change
 changes_of_tokens number [] = []
@@ -58,10 +77,25 @@ changes_of_walkers number (row ∷ rows) =
     (actor_changes number row.asked.event ++ flat_map (walker_changes number) row.seen)
     ++ changes_of_walkers (number + 1) rows
 
+-- and in those of file systems
+abbrev pub changes_of_systems : ℕ → List Viewed → List Change
+changes_of_systems number [] = []
+changes_of_systems number (row ∷ rows) =
+    flat_map (system_changes number) row.seen ++ changes_of_systems (number + 1) rows
+
+-- and in that of the daemon
+abbrev pub changes_of_daemon : ℕ → List Viewed → List Change
+changes_of_daemon number [] = []
+changes_of_daemon number (row ∷ rows) =
+    (living_changes row.asked.event ++ flat_map (daemon_changes number) row.seen)
+    ++ changes_of_daemon (number + 1) rows
+
 -- who has a bar behind these events, and how it looks, is what was seen of them
 pub record BarsAreSeen (lasts : Lasts) (rows : List Viewed) : Type 0 where
   pub tokens : HaveBars lasts.tokens (λ token. bar_behind token None (changes_of_tokens 1 rows))
   pub walkers : HaveBars lasts.walkers (λ walker. bar_behind walker None (changes_of_walkers 1 rows))
+  pub systems : HaveBars lasts.systems (λ fs. bar_behind fs None (changes_of_systems 1 rows))
+  pub daemon : HaveBars lasts.daemon (λ number. bar_behind number None (changes_of_daemon 1 rows))
 
 -- Where a part of a picture has as many lanes as a run of all events comes to, these events come first of
 -- them, and the last of them isn't behind the part, each has the bar that was seen to begin and not to

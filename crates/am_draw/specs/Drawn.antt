@@ -9,14 +9,14 @@ use Rattle.am_machine.specs.{Setup, initial_state_of, Answer, Event, Step}
 use Rattle.am_machine.specs.declared.answer.Answer.TheVariants.{Refused}
 use Rattle.am_names.specs.declared.errno.Errno.TheVariants as errnos
 use Rattle.am_state.specs.{Obs}
-use Rattle.am_script.specs.{ScriptFault, ScriptFaultKind, Output, Summary, is_refused, lines_of, Owed, owed_by, Stands, PutsOut, NothingPlayed, WasRead, played, broken, Numbered, Told, script_of, fault_at, IsWhole, IsShort}
+use Rattle.am_script.specs.{ScriptFault, ScriptFaultKind, Output, Summary, is_refused, lines_of, Owed, owed_by, Stands, PutsOut, WasRead, played, broken, Numbered, Told, only_fault, script_of, without_world, fault_at, IsWhole, IsShort}
 use Rattle.am_script.specs.declared.fault.ScriptFaultKind.TheVariants.{NoMemory, WriteFailed}
 use Rattle.am_script.specs.Script.{Script}
 use Rattle.am_views.specs.{HeadStops}
 use Rattle.am_draw.specs.declared.part.Part.{Part}
 use Rattle.am_draw.specs.declared.part.Size.{Size}
 use Rattle.am_draw.specs.Lasting.{Lasts, behind, added, nothing_lasts}
-use Rattle.am_draw.specs.Head.{head_text, tail_text}
+use Rattle.am_draw.specs.Head.{empty_picture, head_text, tail_text}
 use Rattle.am_draw.specs.Parts.{part_of, is_drawn, is_past}
 use Rattle.am_draw.specs.Rows.{RowSides, row_text, sides_of}
 use Rattle.am_draw.specs.Trees.{rows_before}
@@ -69,7 +69,7 @@ added_behind number lasts (row ∷ rows) =
 
 -- the lanes that these events come to, from none
 abbrev pub lanes_for : List Viewed → Lasts
-lanes_for rows = added_behind 1 (nothing_lasts 0 0) rows
+lanes_for rows = added_behind 1 (nothing_lasts 0 0 0 0) rows
 
 -- how many events there are, and how many lanes they come to
 abbrev pub size_of : List Viewed → Size
@@ -77,6 +77,8 @@ size_of rows = record {
   events = length rows;
   walkers = length (lanes_for rows).walkers;
   tokens = length (lanes_for rows).tokens;
+  systems = length (lanes_for rows).systems;
+  daemon = length (lanes_for rows).daemon;
 }
 
 -- a run of all events of the script has this size
@@ -135,15 +137,16 @@ lasts_behind part number lasts [] = lasts
 lasts_behind part number lasts (row ∷ rows) =
     lasts_behind part (number + 1) (next_lasts part number lasts row.asked.event row.seen) rows
 
--- what stands behind the last event, and is of its line
+-- What stands behind the last event, and is of its line. Where there is none, that is a picture which says
+-- so, and it is of the first line.
 abbrev pub tail_pieces : List ℕ → List Viewed → List Piece
-tail_pieces bytes [] = []
+tail_pieces bytes [] = record { line = 1; bytes = empty_picture } ∷ []
 tail_pieces bytes (row ∷ []) = record { line = row.asked.line; bytes = bytes } ∷ []
 tail_pieces bytes (row ∷ next ∷ rows) = tail_pieces bytes (next ∷ rows)
 
 -- in the beginning nobody holds one of the lanes
 abbrev pub first_lasts : Part → Lasts
-first_lasts part = nothing_lasts part.size.tokens part.size.walkers
+first_lasts part = nothing_lasts part.size.tokens part.size.walkers part.size.systems part.size.daemon
 
 -- the tail of the picture of these events
 abbrev pub tail_for : Part → List Viewed → List ℕ
@@ -253,9 +256,29 @@ DrawEnds first last start told old new (Err fault) = DrawStops first last start 
 
 -- ---- any script
 
--- all events are drawn where there is a world; where there is none, nothing is written
+-- the script ends before its events, and the picture of no event is written
+pub record NothingDrawn (told : Told) (old new : Option (List ℕ)) (summary : Summary) : Type 0 where
+  pub no_fault : told.fault ≡ None
+  pub written : Appends old new empty_picture
+  pub lines : summary.lines ≡ 0
+  pub refused : summary.refused ≡ 0
+
+-- the same, but for a beginning that picture isn't taken: that is told at the first line
+pub record NothingStops (script : Script) (old new : Option (List ℕ)) (fault : ScriptFault) : Type 0 where
+  pub ends : script ≡ without_world None
+  pub told : fault ≡ fault_at 1 WriteFailed
+  pub taken : ℕ
+  pub short : taken < length empty_picture
+  pub written : Appends old new (take taken empty_picture)
+
+-- how a script ends that has no events
+abbrev pub NothingEnds : Option (List ℕ) → Option (List ℕ) → Result Summary ScriptFault → Type 0
+NothingEnds old new (Ok summary) = NothingDrawn (only_fault None) old new summary
+NothingEnds old new (Err fault) = NothingStops (without_world None) old new fault
+
+-- all events are drawn where there is a world; where there is none, that no event was played
 abbrev pub DrawnFrom : ℕ → ℕ → Option Setup → Told → Option (List ℕ) → Option (List ℕ) → Summary → Type 0
-DrawnFrom first last None told old new summary = NothingPlayed told old new summary
+DrawnFrom first last None told old new summary = NothingDrawn told old new summary
 DrawnFrom first last (Some opening) told old new summary =
     AllDrawn first last (initial_state_of opening) told old new summary
 
@@ -264,6 +287,12 @@ pub record EventsStop (first last : ℕ) (script : Script) (old new : Option (Li
   pub opening : Setup
   pub begins : script.opening ≡ Some opening
   pub stops : DrawStops first last (initial_state_of opening) script.told old new fault
+
+-- the script isn't drawn to its end: its head stops, or its picture does
+abbrev pub ScriptStops : ℕ → ℕ → Option ScriptFaultKind → List ℕ → Option (List ℕ) → Option (List ℕ) → ScriptFault → Type 0
+ScriptStops first last broke text old new fault =
+    HeadStops (length (lines_of (played broke text))) (script_of broke text) old new fault
+    ⊎ (NothingStops (script_of broke text) old new fault ⊎ EventsStop first last (script_of broke text) old new fault)
 
 -- ---- with a reader
 
@@ -279,9 +308,7 @@ pub record StopsDrawing (first last : ℕ) (input rest old new : Option (List �
   pub text : List ℕ
   pub broke : Option ScriptFaultKind
   pub read : WasRead input rest text broke
-  pub stopped :
-      HeadStops (length (lines_of (played broke text))) (script_of broke text) old new fault
-      ⊎ EventsStop first last (script_of broke text) old new fault
+  pub stopped : ScriptStops first last broke text old new fault
 
 -- a script that was counted is drawn: it has a world, whose events have this size
 abbrev pub IsSizeOfScript : Script → Size → Type 0
@@ -293,9 +320,7 @@ abbrev pub DrawsFrom : ℕ → ℕ → Option ScriptFaultKind → List ℕ → O
 DrawsFrom first last broke text old new (Ok summary) =
     (broken broke text ≡ None)
     × DrawnFrom first last (script_of broke text).opening (script_of broke text).told old new summary
-DrawsFrom first last broke text old new (Err fault) =
-    HeadStops (length (lines_of (played broke text))) (script_of broke text) old new fault
-    ⊎ EventsStop first last (script_of broke text) old new fault
+DrawsFrom first last broke text old new (Err fault) = ScriptStops first last broke text old new fault
 
 -- the same, if that is its size
 abbrev pub DrawsAgain : ℕ → ℕ → Option ScriptFaultKind → List ℕ → Size → Option (List ℕ) → Option (List ℕ) → Result Summary ScriptFault → Type 0
@@ -322,9 +347,9 @@ pub record IsUndrawn (line : ℕ) (kept keeps : Output) (old new : Option (List 
 
 -- ---- the end
 
--- behind so many events stands the tail, if there are any
+-- behind so many events stands the tail; where there are none, the picture that says so
 abbrev pub tail_behind : Part → ℕ → Lasts → List ℕ
-tail_behind part events lasts = if nat_lt 0 events then tail_text part events lasts else []
+tail_behind part events lasts = if nat_lt 0 events then tail_text part events lasts else empty_picture
 
 -- the tail is put out, and what is kept goes to the writer
 abbrev pub Finishes : Output → List ℕ → Result Summary ScriptFault → Option (List ℕ) → Option (List ℕ) → Result Summary ScriptFault → Type 0

@@ -1,6 +1,6 @@
 -- What stands before the rows of a picture, and behind them: own choice (docs/FORMATS.md,
 -- "Pictures").
-use Rattle.std.specs.Prelude.{ℕ, ◌+◌, ◌*◌, nat_lt, List, ◌++◌, [], codes, decimal, if◌then◌else◌}
+use Rattle.std.specs.Prelude.{ℕ, ◌+◌, ◌*◌, ◌==◌, nat_lt, List, ◌++◌, [], codes, decimal, if◌then◌else◌}
 use Rattle.am_draw.specs.declared.part.Part.{Part}
 use Rattle.am_draw.specs.Lasting.{Lasts}
 use Rattle.am_draw.specs.Look.{look_text, right_text}
@@ -12,9 +12,9 @@ use Rattle.am_draw.specs.Stretches.{all_bars}
 abbrev pub height : ℕ → ℕ
 height tall = 140 + 26 * tall
 
--- how wide one is with room for so many lanes of walkers and of tokens, in pixels
+-- how wide one is with room for so many lanes of walkers, and so many narrow ones, in pixels
 abbrev pub width : ℕ → ℕ → ℕ
-width walkers tokens = 844 + 44 * walkers + 20 * tokens
+width walkers narrow = 844 + 44 * walkers + 20 * narrow
 
 -- ---- the element that holds all others
 
@@ -28,9 +28,18 @@ size_text across down =
 abbrev pub box_text : ℕ → ℕ → List ℕ
 box_text across down = codes "' viewBox='0 0 " ++ decimal across ++ (codes " " ++ decimal down)
 
+-- it is said where no row is drawn
+abbrev pub none_words : ℕ → List ℕ
+none_words rows = if rows == 0 then codes ": none is drawn" else []
+
 -- how many rows there are, of how many events
+abbrev pub row_count_words : ℕ → ℕ → List ℕ
+row_count_words rows events =
+    decimal rows ++ ((codes " of " ++ decimal events) ++ (codes " events" ++ none_words rows))
+
+-- the same; where there are no events, that there are none
 abbrev pub count_words : ℕ → ℕ → List ℕ
-count_words rows events = decimal rows ++ ((codes " of " ++ decimal events) ++ codes " events")
+count_words rows events = if events == 0 then codes "no event was played" else row_count_words rows events
 
 -- its title
 abbrev pub title_text : ℕ → ℕ → List ℕ
@@ -39,9 +48,9 @@ title_text rows events =
 
 -- the tag, with its title, of a picture of so many rows of so many events, which are so tall
 abbrev pub tag_text : ℕ → ℕ → ℕ → ℕ → ℕ → List ℕ
-tag_text walkers tokens tall rows events =
-    size_text (width walkers tokens) (height tall)
-    ++ (box_text (width walkers tokens) (height tall) ++ title_text rows events)
+tag_text walkers narrow tall rows events =
+    size_text (width walkers narrow) (height tall)
+    ++ (box_text (width walkers narrow) (height tall) ++ title_text rows events)
 
 -- ---- what all rows stand on
 
@@ -76,25 +85,29 @@ right_columns far down =
 
 -- all of it, below rows that are so high
 abbrev pub ground : ℕ → ℕ → ℕ → List ℕ
-ground walkers tokens down =
-    (rules (width walkers tokens) down ++ walker_lanes (44 * walkers) down)
+ground walkers narrow down =
+    (rules (width walkers narrow) down ++ walker_lanes (44 * walkers) down)
     ++ (edges down (320 + 44 * walkers)
-    ++ (token_title (328 + 44 * walkers) ++ right_columns (shift walkers tokens) down))
+    ++ (token_title (328 + 44 * walkers) ++ right_columns (shift walkers narrow) down))
 
 -- ---- head and tail
 
 -- so many rows of so many events, which are so tall, with room for so many lanes
 abbrev pub head_for : ℕ → ℕ → ℕ → ℕ → ℕ → List ℕ
-head_for walkers tokens tall rows events =
-    tag_text walkers tokens tall rows events
+head_for walkers narrow tall rows events =
+    tag_text walkers narrow tall rows events
     ++ (look_text
-    ++ (ground walkers tokens (26 * tall) ++ label (codes "h") 46 84 (count_words rows events)))
+    ++ (ground walkers narrow (26 * tall) ++ label (codes "h") 46 84 (count_words rows events)))
 
 -- the head of the picture of this part
 abbrev pub head_text : Part → List ℕ
 head_text part =
-    head_for (wide 7 part.size.walkers) (wide 8 part.size.tokens) (tall part.skipped part.rows) part.rows
-    part.size.events
+    head_for (wide 7 part.size.walkers) (wide 8 part.size.tokens + wide 0 part.size.systems)
+    (tall part.skipped part.rows) part.rows part.size.events
+
+-- the picture of no event, which says so
+abbrev pub empty_picture : List ℕ
+empty_picture = head_for 7 8 0 0 0 ++ codes "</svg>\n"
 
 -- the bars that reach to the bottom of the last of so many rows
 abbrev pub last_bars : ℕ → ℕ → Lasts → List ℕ

@@ -8,22 +8,34 @@ use Rattle.am_state.specs.declared.obs.Obs.TheVariants as seen
 use Rattle.am_wire.specs.declared.packet_type.PacketType.{PacketType}
 use Rattle.am_wire.specs.declared.packet_type.PacketType.TheVariants.{MissingIndirect, ExpireIndirect, MissingDirect, ExpireDirect}
 use Rattle.am_lanes.specs.{Holder, Look, ended_lane, placed, sighted, with_lane}
-use Rattle.am_lanes.specs.declared.holder.Look.TheVariants.{Missing, Expire, Waits, Inside, Idle}
+use Rattle.am_lanes.specs.declared.holder.Look.TheVariants.{Missing, Expire, Waits, Inside, Idle, Catatonic, Dead}
 use Rattle.am_lanes.specs.declared.holder.Ending.TheVariants.{Of, In}
 use Rattle.am_draw.specs.declared.lasting.Lasting.{Lasting}
 
--- the lanes of tokens and of walkers
+-- the lanes of tokens, of walkers and of catatonic file systems, and the daemon's once it has died
 pub record Lasts : Type 0 where
   pub tokens : List (Option Holder)
   pub walkers : List (Option Holder)
+  pub systems : List (Option Holder)
+  pub daemon : List (Option Holder)
 
 -- those that the code holds
 abbrev pub lasts_of : Lasting → Lasts
-lasts_of lasting = record { tokens = lasting.tokens; walkers = lasting.walkers }
+lasts_of lasting = record {
+  tokens = lasting.tokens;
+  walkers = lasting.walkers;
+  systems = lasting.systems;
+  daemon = lasting.daemon;
+}
 
--- nobody holds one of so many lanes of tokens and of walkers
-abbrev pub nothing_lasts : ℕ → ℕ → Lasts
-nothing_lasts tokens walkers = record { tokens = replicate tokens None; walkers = replicate walkers None }
+-- nobody holds one of so many lanes of tokens, of walkers, of file systems and of the daemon
+abbrev pub nothing_lasts : ℕ → ℕ → ℕ → ℕ → Lasts
+nothing_lasts tokens walkers systems daemon = record {
+  tokens = replicate tokens None;
+  walkers = replicate walkers None;
+  systems = replicate systems None;
+  daemon = replicate daemon None;
+}
 
 -- how an open token looks
 abbrev pub token_look : PacketType → ℕ → Look
@@ -48,6 +60,33 @@ with_token number token look lasts =
       tokens = placed (record { number = token; look = look; since = number }) lasts.tokens;
     }
 
+-- the file system is catatonic from the event with this number on, and its tokens have ended
+abbrev pub with_catatonic : ℕ → ℕ → Lasts → Lasts
+with_catatonic number fs lasts =
+    record lasts {
+      tokens = map (ended_lane (In fs)) lasts.tokens;
+      systems = placed (record { number = fs; look = Catatonic; since = number }) lasts.systems;
+    }
+
+-- it is catatonic no more
+abbrev pub with_reattached : ℕ → Lasts → Lasts
+with_reattached fs lasts = record lasts { systems = map (ended_lane (Of fs)) lasts.systems }
+
+-- there is one daemon, and this is its number
+abbrev pub the_daemon : ℕ
+the_daemon = 0
+
+-- the daemon is dead from the event with this number on
+abbrev pub with_dead : ℕ → Lasts → Lasts
+with_dead number lasts =
+    record lasts {
+      daemon = placed (record { number = the_daemon; look = Dead; since = number }) lasts.daemon;
+    }
+
+-- it is dead no more
+abbrev pub with_living : Lasts → Lasts
+with_living lasts = record lasts { daemon = map (ended_lane (Of the_daemon)) lasts.daemon }
+
 -- so it is behind this observation of the event with this number
 abbrev pub changed : ℕ → Lasts → Obs → Lasts
 changed number lasts (seen.Queued token attach packet) =
@@ -55,11 +94,12 @@ changed number lasts (seen.Queued token attach packet) =
 changed number lasts (seen.Waits walker token) = with_walker number walker Waits lasts
 changed number lasts (seen.Answered token status) =
     record lasts { tokens = map (ended_lane (Of token)) lasts.tokens }
-changed number lasts (seen.Catatonic fs) =
-    record lasts { tokens = map (ended_lane (In fs)) lasts.tokens }
+changed number lasts (seen.Catatonic fs) = with_catatonic number fs lasts
 changed number lasts (seen.Released walker token status) = with_walker number walker Idle lasts
 changed number lasts (seen.Entered walker mount) = with_walker number walker Inside lasts
 changed number lasts (seen.Left walker mount) = with_walker number walker Idle lasts
+changed number lasts (seen.Reattached fs attach) = with_reattached fs lasts
+changed number lasts seen.Died = with_dead number lasts
 changed number lasts obs = lasts
 
 -- so it is behind all that is seen of it
@@ -76,12 +116,14 @@ with_sighted number walker lasts =
       walkers = sighted (record { number = walker; look = Idle; since = number }) lasts.walkers;
     }
 
--- a walker that does something has a lane
+-- a walker that does something has a lane; a daemon that attaches lives, also where that is refused
 abbrev pub acted : ℕ → Lasts → Event → Lasts
 acted number lasts (events.Walk walker ns path now pipe) = with_sighted number walker lasts
 acted number lasts (events.Resume walker now pipe) = with_sighted number walker lasts
 acted number lasts (events.Leave walker) = with_sighted number walker lasts
 acted number lasts (events.Expire walker fs now immediate pipe) = with_sighted number walker lasts
+acted number lasts (events.Attach path) = with_living lasts
+acted number lasts (events.Reattach fs) = with_living lasts
 acted number lasts event = lasts
 
 -- so it is behind the event with this number, of which this is seen
@@ -98,13 +140,23 @@ with_token_lane token lasts = record lasts { tokens = with_lane token lasts.toke
 abbrev pub with_walker_lane : ℕ → Lasts → Lasts
 with_walker_lane walker lasts = record lasts { walkers = with_lane walker lasts.walkers }
 
--- there is a lane for each of those whose bars the observation changes
+-- there is a lane that the file system may take
+abbrev pub with_system_lane : ℕ → Lasts → Lasts
+with_system_lane fs lasts = record lasts { systems = with_lane fs lasts.systems }
+
+-- there is a lane of the daemon
+abbrev pub with_daemon_lane : Lasts → Lasts
+with_daemon_lane lasts = record lasts { daemon = with_lane the_daemon lasts.daemon }
+
+-- there is a lane for each of those whose bars the observation begins
 abbrev pub roomed : Lasts → Obs → Lasts
 roomed lasts (seen.Queued token attach packet) = with_token_lane token lasts
 roomed lasts (seen.Waits walker token) = with_walker_lane walker lasts
+roomed lasts (seen.Catatonic fs) = with_system_lane fs lasts
 roomed lasts (seen.Released walker token status) = with_walker_lane walker lasts
 roomed lasts (seen.Entered walker mount) = with_walker_lane walker lasts
 roomed lasts (seen.Left walker mount) = with_walker_lane walker lasts
+roomed lasts seen.Died = with_daemon_lane lasts
 roomed lasts obs = lasts
 
 -- there is a lane for the walker that acts

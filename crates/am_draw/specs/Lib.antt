@@ -14,9 +14,9 @@ pub mod Trees
 pub mod Words
 -- what contracts cite, passed on from one place
 pub use Rattle.am_lanes.specs.{Ending, Holder, IsNextEnding, ended_lane, ends_lane, is_free, is_of, lane_for, may_take, placed, sighted, with_lane}
-pub use Drawn.{AllDrawn, DrawEnds, DrawStops, DrawnFrom, DrawnToLoss, DrawsAgain, DrawsFrom, DrawsInput, Finishes, IsAtEvent, IsCounted, IsDrawn, IsSizeOf, IsSizeOfScript, NotCounted, Piece, StopsDrawing, Viewed, ViewedRun, Views, added_behind, answers_in, asked_in, bytes_in, counted_to, drawn_for, event_piece, event_pieces, first_lasts, head_in, is_out_of_memory, lanes_for, lasts_behind, next_lasts, picture, pieces_of, size_of, tail_behind, tail_for, tail_pieces}
+pub use Drawn.{AllDrawn, DrawEnds, DrawStops, DrawnFrom, DrawnToLoss, DrawsAgain, DrawsFrom, DrawsInput, Finishes, IsAtEvent, IsCounted, IsDrawn, IsSizeOf, IsSizeOfScript, NotCounted, NothingDrawn, NothingEnds, NothingStops, Piece, StopsDrawing, Viewed, ViewedRun, Views, added_behind, answers_in, asked_in, bytes_in, counted_to, drawn_for, event_piece, event_pieces, first_lasts, head_in, is_out_of_memory, lanes_for, lasts_behind, next_lasts, picture, pieces_of, size_of, tail_behind, tail_for, tail_pieces}
 pub use Errors.{answer_words, error_word, went_of}
-pub use Head.{tail_text}
+pub use Head.{empty_picture, tail_text}
 pub use Lasting.{Lasts, acted, added, behind, changed, lasts_of, nothing_lasts, roomed, roomed_for, seen_added, seen_behind}
 pub use Marks.{lane_x}
 pub use Parts.{is_drawn, is_past, part_of, row_y, rows_shown}

@@ -24,10 +24,11 @@ look_part_1 =
 abbrev pub look_part_2 : List ℕ
 look_part_2 =
     codes ".am .inside{stroke:#a78bda;stroke-width:5}.am .walks{fill:#1f5fbf}"
+    ++ (codes ".am .mode{stroke:url(#am-hatch);stroke-width:12}.am .dead{stroke:#fff;stroke-width:2}"
     ++ (codes ".am .leaves{stroke:#1f5fbf;stroke-width:3.5}.am .fails{fill:#b42318}"
     ++ (codes ".am .struck{stroke:#fff;stroke-width:1.6}.am .hollow{fill:#fff;stroke:#9a3412;stroke-width:1.8}"
     ++ (codes ".am .expires{fill:#fff;stroke:#b45309;stroke-width:2}.am .daemon{fill:#1a7f4b}"
-    ++ codes ".am .administrator{fill:#57606a}")))
+    ++ codes ".am .administrator{fill:#57606a}"))))
 
 -- the styles of lines and mounts, and the heads of arrows
 abbrev pub look_part_3 : List ℕ
@@ -81,7 +82,7 @@ look_part_5 =
     ++ (codes "<path id='am-passes' class='walks' d='M-15 5l6 4l-6 4z'/>\n"
     ++ (codes "<circle id='am-came' class='came' r='4'/>\n<circle id='am-went' class='went' r='3.5'/>\n"
     ++ (codes "<g id='am-catatonic'><rect class='catatonic' x='631' y='3' width='376' height='20'/>"
-    ++ codes "<rect class='paper' x='724' y='5' width='192' height='16'/></g>\n</defs>\n")))))))))))))
+    ++ codes "<rect class='paper' x='634' y='5' width='170' height='16'/></g>\n</defs>\n")))))))))))))
 
 -- the paper, and the first line of the key: tokens, packets and releases
 abbrev pub look_part_6 : List ℕ

@@ -2,7 +2,7 @@
 -- downwards, and so does y; both count pixels. A row is 26 high, and its middle is at 13.
 use Rattle.std.specs.Prelude.{ℕ, ◌+◌, ◌-◌, ◌*◌, List, ◌++◌, codes, decimal, min}
 use Rattle.am_draw.specs.declared.marks.LaneKind.{LaneKind}
-use Rattle.am_draw.specs.declared.marks.LaneKind.TheVariants.{OfTokens, OfWalkers}
+use Rattle.am_draw.specs.declared.marks.LaneKind.TheVariants.{Narrow, Wide}
 use Rattle.am_draw.specs.Parts.{most_lanes}
 
 -- where it stands
@@ -39,11 +39,27 @@ label class x y text = opening class x y ++ (text ++ codes "</text>\n")
 
 -- ---- where things stand
 
--- the middle of a lane, behind so many lanes of walkers
+-- the middle of a lane, of which the first of its kind has it there
 abbrev pub lane_x : LaneKind → ℕ → ℕ → ℕ
-lane_x OfTokens walkers lane = 338 + 44 * walkers + 20 * min lane most_lanes
-lane_x OfWalkers walkers lane = 332 + 44 * min lane most_lanes
+lane_x Narrow first lane = first + 20 * min lane most_lanes
+lane_x Wide first lane = first + 44 * min lane most_lanes
 
--- how far the columns at the right are moved, behind so many lanes of walkers and of tokens
+-- that of the first walker
+abbrev pub first_walker : ℕ
+first_walker = 332
+
+-- that of the first token, behind so many walkers
+abbrev pub first_token : ℕ → ℕ
+first_token walkers = 338 + 44 * walkers
+
+-- that of the first file system, behind so many walkers and tokens
+abbrev pub first_system : ℕ → ℕ → ℕ
+first_system walkers tokens = 348 + 44 * walkers + 20 * tokens
+
+-- that of the daemon, in columns that are moved so far
+abbrev pub daemon_x : ℕ → ℕ
+daemon_x moved = 884 + moved
+
+-- how far the columns at the right are moved, behind so many wide lanes and so many narrow ones
 abbrev pub shift : ℕ → ℕ → ℕ
-shift walkers tokens = 44 * walkers + 20 * tokens - 468
+shift wide narrow = 44 * wide + 20 * narrow - 468

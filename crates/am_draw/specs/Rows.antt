@@ -12,17 +12,17 @@ use Rattle.am_machine.specs.{Answer, Event}
 use Rattle.am_machine.specs.declared.event.Event.TheVariants as events
 use Rattle.am_script.specs.{entry_text}
 use Rattle.am_views.specs.{event_text}
-use Rattle.am_draw.specs.declared.marks.LaneKind.TheVariants.{OfTokens, OfWalkers}
+use Rattle.am_draw.specs.declared.marks.LaneKind.TheVariants.{Narrow, Wide}
 use Rattle.am_draw.specs.declared.stretch.Until.{Until}
 use Rattle.am_draw.specs.declared.part.Part.{Part}
 use Rattle.am_draw.specs.declared.went.Went.{Went}
 use Rattle.am_lanes.specs.{lane_of}
 use Rattle.am_draw.specs.Errors.{answer_class, answer_words, mark_of, went_of}
 use Rattle.am_draw.specs.Lasting.{Lasts, changed, acted, behind}
-use Rattle.am_draw.specs.Marks.{stamp, stroke, label, lane_x, shift}
+use Rattle.am_draw.specs.Marks.{stamp, stroke, label, lane_x, first_walker, first_token, first_system, daemon_x}
 use Rattle.am_draw.specs.Parts.{row_y}
 use Rattle.am_draw.specs.Titles.{titles_in}
-use Rattle.am_draw.specs.Stretches.{walker_columns, token_columns, ended_bars}
+use Rattle.am_draw.specs.Stretches.{walker_columns, token_columns, moved, ended_bars, living_bars}
 use Rattle.am_draw.specs.Trees.{mounts_marks}
 use Rattle.am_draw.specs.Words.{words, xml}
 
@@ -30,19 +30,20 @@ use Rattle.am_draw.specs.Words.{words, xml}
 
 -- the middle of the token's lane
 abbrev pub token_x : Lasts → ℕ → ℕ
-token_x lasts token = lane_x OfTokens (walker_columns lasts) (lane_of token lasts.tokens)
+token_x lasts token = lane_x Narrow (first_token (walker_columns lasts)) (lane_of token lasts.tokens)
 
 -- the middle of the walker's lane
 abbrev pub walker_x : Lasts → ℕ → ℕ
-walker_x lasts walker = lane_x OfWalkers (walker_columns lasts) (lane_of walker lasts.walkers)
+walker_x lasts walker = lane_x Wide first_walker (lane_of walker lasts.walkers)
+
+-- the middle of the file system's lane
+abbrev pub system_x : Lasts → ℕ → ℕ
+system_x lasts fs =
+    lane_x Narrow (first_system (walker_columns lasts) (token_columns lasts)) (lane_of fs lasts.systems)
 
 -- how far the columns of tokens are moved
 abbrev pub inset : Lasts → ℕ
 inset lasts = 44 * walker_columns lasts - 308
-
--- how far the columns of the daemon and of mounts are moved
-abbrev pub moved : Lasts → ℕ
-moved lasts = shift (walker_columns lasts) (token_columns lasts)
 
 -- ---- what stands at the sides
 
@@ -79,11 +80,11 @@ administrator_mark lasts = stamp (codes "administrator") (1010 + moved lasts) 13
 
 -- the mark of the daemon
 abbrev pub daemon_mark : Lasts → List ℕ
-daemon_mark lasts = stamp (codes "daemon") (884 + moved lasts) 13
+daemon_mark lasts = stamp (codes "daemon") (daemon_x (moved lasts)) 13
 
 -- the mark of the daemon at an act of a job, with the job's number
 abbrev pub act_mark : Lasts → ℕ → List ℕ
-act_mark lasts job = numbered_mark (codes "daemon") (884 + moved lasts) job
+act_mark lasts job = numbered_mark (codes "daemon") (daemon_x (moved lasts)) job
 
 -- the mark of whoever makes an event that went so; one that only reads has none
 abbrev pub actor_marks : Lasts → Event → Went → List ℕ
@@ -102,7 +103,7 @@ actor_marks lasts (events.Repeat attach token status) went = daemon_mark lasts
 actor_marks lasts (events.Catatonic attach fs) went = daemon_mark lasts
 actor_marks lasts (events.Timeout attach fs timeout) went = daemon_mark lasts
 actor_marks lasts (events.Reattach fs) went = daemon_mark lasts
-actor_marks lasts events.Die went = stamp (codes "cross") (884 + moved lasts) 13
+actor_marks lasts events.Die went = stamp (codes "cross") (daemon_x (moved lasts)) 13
 actor_marks lasts (events.Kind ns path) went = []
 actor_marks lasts (events.Record trigger) went = []
 actor_marks lasts event went = administrator_mark lasts
@@ -182,7 +183,7 @@ obs_marks before after lasts (seen.Answered token status) =
     stamp (answered_symbol status) (token_x lasts token) 13
 obs_marks before after lasts (seen.Catatonic fs) =
     stamp (codes "catatonic") (inset lasts) 0
-    ++ label (codes "h c") (820 + inset lasts) 17 (catatonic_words fs)
+    ++ label (codes "h c") (719 + inset lasts) 17 (catatonic_words fs)
 obs_marks before after lasts (seen.Released walker token status) =
     released_marks (token_x lasts token - 7) (walker_x lasts walker + 6) status
 obs_marks before after lasts (seen.Passed walker trigger) =
@@ -199,7 +200,8 @@ obs_marks before after lasts (seen.Delivered token attach packet) =
 obs_marks before after lasts (seen.Recorded trigger entry) =
     book_marks (895 + moved lasts) trigger entry
 obs_marks before after lasts (seen.Reattached fs attach) =
-    label (codes "s") (895 + moved lasts) 17 (codes "attached again, by " ++ decimal attach)
+    stamp (codes "edge") (system_x lasts fs) 13
+    ++ label (codes "s") (895 + moved lasts) 17 (codes "attached again, by " ++ decimal attach)
 obs_marks before after lasts seen.Died = label (codes "h") (897 + moved lasts) 17 (codes "the daemon dies")
 
 -- what is drawn of an observation, before which this lasts: the bars that end, and its marks
@@ -227,8 +229,9 @@ scene y sides = row_opening y ++ sides
 -- what is seen, and who acts, which stands above the bars
 abbrev pub marks : List MountRow → List MountRow → Until → Lasts → Event → Went → List Obs → List ℕ
 marks before after until lasts event went seen =
-    seen_drawn before after until (acted until.number lasts event) seen
-    ++ (actor_marks (behind until.number lasts event seen) event went ++ codes "</g>\n")
+    living_bars until lasts event
+    ++ (seen_drawn before after until (acted until.number lasts event) seen
+    ++ (actor_marks (behind until.number lasts event seen) event went ++ codes "</g>\n"))
 
 -- where the bars of the event with this number end
 abbrev pub until_row : Part → ℕ → Until

@@ -2,15 +2,15 @@
 -- (docs/FORMATS.md, "Pictures").
 use Rattle.std.specs.Prelude.{ℕ, zero, suc, ◌+◌, ◌-◌, ◌*◌, List, [], ◌++◌, get_or, codes, decimal, Option, None, Some, if◌then◌else◌}
 use Rattle.am_lanes.specs.{Holder, Look}
-use Rattle.am_lanes.specs.declared.holder.Look.TheVariants.{Missing, Expire, Ended, Waits, Inside, Idle}
+use Rattle.am_lanes.specs.declared.holder.Look.TheVariants.{Missing, Expire, Ended, Waits, Inside, Idle, Catatonic, Dead}
 use Rattle.am_draw.specs.declared.marks.LaneKind.{LaneKind}
-use Rattle.am_draw.specs.declared.marks.LaneKind.TheVariants.{OfTokens, OfWalkers}
+use Rattle.am_draw.specs.declared.marks.LaneKind.TheVariants.{Narrow, Wide}
 use Rattle.am_draw.specs.declared.part.Part.{Part}
 use Rattle.am_draw.specs.Lasting.{Lasts}
 use Rattle.am_draw.specs.Look.{left_again_text, right_again_text}
-use Rattle.am_draw.specs.Marks.{label, lane_x, shift}
+use Rattle.am_draw.specs.Marks.{label, lane_x, first_walker, first_token, first_system}
 use Rattle.am_draw.specs.Parts.{has_titles}
-use Rattle.am_draw.specs.Stretches.{walker_columns, token_columns}
+use Rattle.am_draw.specs.Stretches.{walker_columns, token_columns, moved}
 
 -- the number of one who looks so, beside its bar; one without a bar has none
 abbrev pub name : Look → ℕ → ℕ → List ℕ
@@ -20,31 +20,34 @@ name Ended number x = []
 name Waits number x = label (codes "s n") (x - 8) 19 (decimal number)
 name Inside number x = label (codes "s n") (x - 8) 19 (decimal number)
 name Idle number x = []
+name Catatonic number x = label (codes "k") x 21 (codes "fs " ++ decimal number)
+name Dead number x = []
 
 -- that of the one in a lane
 abbrev pub lane_name : Option Holder → ℕ → List ℕ
 lane_name None x = []
 lane_name (Some holder) x = name holder.look holder.number x
 
--- those in the first so many of these lanes, behind so many of walkers
+-- those in the first so many of these lanes, the first of which stands there
 abbrev pub lane_names : LaneKind → ℕ → List (Option Holder) → ℕ → List ℕ
-lane_names kind walkers lanes zero = []
-lane_names kind walkers lanes (suc lane) =
-    lane_names kind walkers lanes lane ++ lane_name (get_or lanes lane None) (lane_x kind walkers lane)
+lane_names kind first lanes zero = []
+lane_names kind first lanes (suc lane) =
+    lane_names kind first lanes lane ++ lane_name (get_or lanes lane None) (lane_x kind first lane)
 
--- so many lanes of walkers, and of tokens, are told of
+-- so many lanes of walkers, of tokens and of file systems are told of
 abbrev pub named_lanes : ℕ
 named_lanes = 64
 
 -- those in the first lanes
 abbrev pub first_names : LaneKind → ℕ → List (Option Holder) → List ℕ
-first_names kind walkers lanes = lane_names kind walkers lanes named_lanes
+first_names kind first lanes = lane_names kind first lanes named_lanes
 
 -- who has a bar
 abbrev pub names : Lasts → List ℕ
 names lasts =
-    first_names OfWalkers (walker_columns lasts) lasts.walkers
-    ++ first_names OfTokens (walker_columns lasts) lasts.tokens
+    first_names Wide first_walker lasts.walkers
+    ++ (first_names Narrow (first_token (walker_columns lasts)) lasts.tokens
+    ++ first_names Narrow (first_system (walker_columns lasts) (token_columns lasts)) lasts.systems)
 
 -- the title of the columns of tokens
 abbrev pub tokens_again : ℕ → List ℕ
@@ -59,7 +62,7 @@ abbrev pub titles : Lasts → List ℕ
 titles lasts =
     left_again_text
     ++ (tokens_again (walker_columns lasts)
-    ++ (right_again (shift (walker_columns lasts) (token_columns lasts))
+    ++ (right_again (moved lasts)
     ++ (names lasts ++ codes "</g>\n")))
 
 -- the same, if they stand there

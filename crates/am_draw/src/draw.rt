@@ -1,17 +1,17 @@
 //! The picture of a script is written.
 
-ghost use Rattle.std.specs.Prelude.{◌≡◌, ◌+◌, ◌-◌, ◌<◌, ◌≤◌, ◌^◌, ℕ, length, drop, option_copied, vec_len, None, IfOk, IfErr, OnOk, OnErr};
+ghost use Rattle.std.specs.Prelude.{◌≡◌, ◌+◌, ◌-◌, ◌<◌, ◌≤◌, ◌^◌, ℕ, length, drop, option_copied, vec_len, [], None, IfOk, IfErr, OnOk, OnErr};
 ghost use Rattle.am_script.specs.{lines_in, size_in, Puts, events_from, fault_at};
 ghost use Rattle.am_script.specs.declared.fault.ScriptFaultKind.TheVariants.{NoMemory};
 ghost use Rattle.am_world.specs.Capacity.{state_of};
-ghost use Rattle.am_draw.specs.Drawn.{is_out_of_memory, head_in, row_in, drawn_for, next_lasts, first_lasts, tail_behind, counted_to, IsSizeOf, IsCounted, AllDrawn, DrawStops, DrawEnds, DrawsInput, StopsDrawing, DrawsAgain, NotCounted, IsDrawn, IsUndrawn, Finishes};
+ghost use Rattle.am_draw.specs.Drawn.{is_out_of_memory, head_in, row_in, drawn_for, next_lasts, first_lasts, tail_behind, counted_to, IsSizeOf, IsCounted, AllDrawn, DrawStops, DrawEnds, DrawsInput, StopsDrawing, DrawsAgain, NotCounted, IsDrawn, IsUndrawn, Finishes, NothingEnds};
 ghost use Rattle.am_draw.specs.Lasting.{lasts_of, nothing_lasts, behind};
 ghost use Rattle.am_draw.specs.Parts.{most_rows, part_of};
 ghost use Rattle.am_draw.specs.declared.part.Size.{Size};
 ghost use Rattle.am_draw.specs.Sides.{sides_said};
 ghost use Rattle.am_draw.specs.Rows.{row_text};
 
-use crate::head::{put_head, put_tail};
+use crate::head::{put_empty, put_head, put_tail};
 use crate::lasting::Lasting;
 use crate::part::{Part, Size, part_of};
 use crate::row::{Asked, put_marks};
@@ -30,7 +30,8 @@ use std::alloc::{AllocError, Global};
 use std::io::{Read, Write};
 
 /// Reads a script to its end, plays it on a world of its own, and writes a picture of what
-/// happened, an SVG, with a row for each event from one number to another; numbers begin with 1. It
+/// happened, an SVG, with a row for each event from one number to another; numbers begin with 1. Where
+/// there is none, it says so. It
 /// has the faults of `run_script`, but that an event for which there is no memory is one. What is
 /// drawn isn't kept: it goes to the writer piece by piece. Before, all events are played once, as
 /// the picture's size comes first.
@@ -48,16 +49,38 @@ pub fn draw_script<R: Read, W: Write>(
 {
     let input = read_all(alloc, reader);
     match open_script(alloc, &input) {
-        Ok(None) => Ok(Summary {
-            lines: 0,
-            refused: 0,
-        }),
+        Ok(None) => draw_nothing(writer),
         Ok(Some(opened)) => match count_opened(alloc, opened) {
             Ok(counted) => draw_again(alloc, &input, first, last, counted, writer),
             Err(fault) => Err(fault),
         },
         Err(fault) => Err(fault),
     }
+}
+
+/// Nothing is drawn yet. What is put out before the first event is of the first line.
+fn new_output() -> Output
+    ensures bytes { result.bytes.items ≡ [] }
+    ensures marks { result.marks.items ≡ [] }
+    ensures line { result.line ≡ 1 }
+    ensures lost { result.lost ≡ None }
+{
+    let mut output = Output::new();
+    output.line = 1;
+    output
+}
+
+/// Writes the picture of no event.
+fn draw_nothing<W: Write>(writer: &mut W) -> Result<Summary, ScriptFault>
+    ensures { NothingEnds (W.contents writer.old) (W.contents writer.new) result }
+{
+    let mut output = new_output();
+    put_empty(&mut output, writer);
+    let summary = Summary {
+        lines: 0,
+        refused: 0,
+    };
+    close(&mut output, Ok(summary), writer)
 }
 
 /// How large a picture is, and its lanes, which nobody holds yet.
@@ -78,17 +101,15 @@ fn draw_again<W: Write>(
 ) -> Result<Summary, ScriptFault>
     requires fits { vec_len input.now.text < 2 ^ 62 }
     requires lasts { lasts_of counted.lasting
-        ≡ nothing_lasts counted.size.tokens counted.size.walkers }
+        ≡ nothing_lasts counted.size.tokens counted.size.walkers counted.size.systems
+        counted.size.daemon }
     ensures { DrawsAgain first last input.now.broke input.now.text.items counted.size
         (W.contents writer.old) (W.contents writer.new) result }
 {
     match open_script(alloc, input) {
         Ok(None) => {
             drop(counted);
-            Ok(Summary {
-                lines: 0,
-                refused: 0,
-            })
+            draw_nothing(writer)
         }
         Ok(Some(opened)) => draw_opened(alloc, opened, first, last, counted, writer),
         Err(fault) => {
@@ -105,7 +126,8 @@ fn count_opened(alloc: Global, opened: Opened<'_>) -> Result<Counted, ScriptFaul
         (events_from opened.entry.broke opened.entry.line
         (lines_in (option_copied opened.entry.rest))) counted.size) }
     ensures lasts { IfOk result (λ counted. lasts_of counted.lasting
-        ≡ nothing_lasts counted.size.tokens counted.size.walkers) }
+        ≡ nothing_lasts counted.size.tokens counted.size.walkers counted.size.systems
+        counted.size.daemon) }
     ensures err { IfErr result (NotCounted (events_from opened.entry.broke opened.entry.line
         (lines_in (option_copied opened.entry.rest)))) }
 {
@@ -134,9 +156,12 @@ fn cleared(lasting: Lasting, events: u64) -> Counted
       events = events;
       walkers = length (lasts_of lasting).walkers;
       tokens = length (lasts_of lasting).tokens;
+      systems = length (lasts_of lasting).systems;
+      daemon = length (lasts_of lasting).daemon;
     } }
     ensures lasts { lasts_of result.lasting ≡ nothing_lasts (length (lasts_of lasting).tokens)
-        (length (lasts_of lasting).walkers) }
+        (length (lasts_of lasting).walkers) (length (lasts_of lasting).systems)
+        (length (lasts_of lasting).daemon) }
 {
     let mut lasting = lasting;
     lasting.clear();
@@ -144,6 +169,8 @@ fn cleared(lasting: Lasting, events: u64) -> Counted
         events,
         walkers: lasting.walkers.len() as u64,
         tokens: lasting.tokens.len() as u64,
+        systems: lasting.systems.len() as u64,
+        daemon: lasting.daemon.len() as u64,
     };
     Counted { size, lasting }
 }
@@ -159,7 +186,8 @@ fn draw_opened<W: Write>(
 ) -> Result<Summary, ScriptFault>
     requires fits { opened.line + size_in (option_copied opened.rest) ≤ 2 ^ 63 }
     requires lasts { lasts_of counted.lasting
-        ≡ nothing_lasts counted.size.tokens counted.size.walkers }
+        ≡ nothing_lasts counted.size.tokens counted.size.walkers counted.size.systems
+        counted.size.daemon }
     ensures whole { OnOk result (opened.entry.broke ≡ None) }
     ensures ok { IsSizeOf (state_of opened.entry.world)
         (events_from opened.entry.broke opened.entry.line
@@ -211,12 +239,14 @@ fn count_events(
     lasting: &mut Lasting,
 ) -> Result<u64, ScriptFault>
     requires fits { line + size_in (option_copied rest) ≤ 2 ^ 63 }
-    requires nothing { lasts_of lasting.now ≡ nothing_lasts 0 0 }
+    requires nothing { lasts_of lasting.now ≡ nothing_lasts 0 0 0 0 }
     ensures ok { IfOk result (λ events. IsSizeOf (state_of world.old) (events_from broke line
         (lines_in (option_copied rest.entry))) (record {
           events = events;
           walkers = length (lasts_of lasting.new).walkers;
           tokens = length (lasts_of lasting.new).tokens;
+          systems = length (lasts_of lasting.new).systems;
+          daemon = length (lasts_of lasting.new).daemon;
         })) }
     ensures err { IfErr result (NotCounted (events_from broke line
         (lines_in (option_copied rest.entry)))) }
@@ -346,7 +376,7 @@ fn draw_events<W: Write>(
         (events_from broke line (lines_in (option_copied rest.entry))) (W.contents writer.old)
         (W.contents writer.new) result }
 {
-    let mut output = Output::new();
+    let mut output = new_output();
     let mut summary = Summary {
         lines: 0,
         refused: 0,
@@ -410,7 +440,7 @@ fn draw_events<W: Write>(
     }
 }
 
-/// Puts out the tail of a picture, if there are events, and gives to the writer what is kept.
+/// Puts out the tail of a picture, or that there are no events, and gives to the writer what is kept.
 fn finish<W: Write>(
     output: &mut Output,
     part: &Part,
@@ -442,7 +472,9 @@ fn put_tail_behind<W: Write>(
 {
     if 0 < events {
         put_tail(output, part, events, lasting, writer);
+        return;
     }
+    put_empty(output, writer);
 }
 
 /// What is behind an event that was drawn.

@@ -2,7 +2,7 @@
 
 ghost use Rattle.std.specs.Prelude.{◌≡◌, ◌≤◌, ◌<◌, ◌+◌, ◌*◌, ◌^◌, ◌++◌, codes};
 ghost use Rattle.am_script.specs.{Puts};
-ghost use Rattle.am_draw.specs.Head.{size_text, box_text, count_words, title_text, tag_text, rules, walker_lanes, edges, token_title, right_columns, ground, head_for, head_text, last_bars, last_bars_in, tail_text};
+ghost use Rattle.am_draw.specs.Head.{size_text, box_text, none_words, row_count_words, count_words, title_text, tag_text, rules, walker_lanes, edges, token_title, right_columns, ground, head_for, head_text, empty_picture, last_bars, last_bars_in, tail_text};
 ghost use Rattle.am_draw.specs.Lasting.{lasts_of};
 ghost use Rattle.am_draw.specs.Look.{look_text, right_text};
 ghost use Rattle.am_draw.specs.Marks.{label, shift};
@@ -24,12 +24,12 @@ pub(crate) fn put_head<W: Write>(output: &mut Output, part: &Part, writer: &mut 
         (W.contents writer.new) }
 {
     let walkers = wide(7, part.size.walkers);
-    let tokens = wide(8, part.size.tokens);
+    let narrow = wide(8, part.size.tokens) + wide(0, part.size.systems);
     let height = tall(part.skipped, part.rows);
     put_head_for(
         output,
         walkers,
-        tokens,
+        narrow,
         height,
         part.rows,
         part.size.events,
@@ -41,21 +41,21 @@ pub(crate) fn put_head<W: Write>(output: &mut Output, part: &Part, writer: &mut 
 fn put_head_for<W: Write>(
     output: &mut Output,
     walkers: u64,
-    tokens: u64,
+    narrow: u64,
     tall: u64,
     rows: u64,
     events: u64,
     writer: &mut W,
 )
     requires walkers { walkers ≤ 1000000 }
-    requires tokens { tokens ≤ 1000000 }
+    requires narrow { narrow ≤ 2000000 }
     requires tall { tall ≤ 2000001 }
-    ensures { Puts output.old output.new (head_for walkers tokens tall rows events)
+    ensures { Puts output.old output.new (head_for walkers narrow tall rows events)
         (W.contents writer.old) (W.contents writer.new) }
 {
-    put_tag(output, walkers, tokens, tall, rows, events, writer);
+    put_tag(output, walkers, narrow, tall, rows, events, writer);
     put_look(output, writer);
-    put_ground(output, walkers, tokens, 26 * tall, writer);
+    put_ground(output, walkers, narrow, 26 * tall, writer);
     put_count(output, rows, events, writer);
 }
 
@@ -69,19 +69,19 @@ fn put_look<W: Write>(output: &mut Output, writer: &mut W)
 fn put_tag<W: Write>(
     output: &mut Output,
     walkers: u64,
-    tokens: u64,
+    narrow: u64,
     tall: u64,
     rows: u64,
     events: u64,
     writer: &mut W,
 )
     requires walkers { walkers ≤ 1000000 }
-    requires tokens { tokens ≤ 1000000 }
+    requires narrow { narrow ≤ 2000000 }
     requires tall { tall ≤ 2000001 }
-    ensures { Puts output.old output.new (tag_text walkers tokens tall rows events)
+    ensures { Puts output.old output.new (tag_text walkers narrow tall rows events)
         (W.contents writer.old) (W.contents writer.new) }
 {
-    let across = 844 + 44 * walkers + 20 * tokens;
+    let across = 844 + 44 * walkers + 20 * narrow;
     let down = 140 + 26 * tall;
     put_size(output, across, down, writer);
     put_box(output, across, down, writer);
@@ -123,38 +123,38 @@ fn put_title<W: Write>(output: &mut Output, rows: u64, events: u64, writer: &mut
 
 /// Puts out what all rows stand on, which are so high.
 #[tactic(auto, using(am_script::proofs::Pieces::puts_two))]
-fn put_ground<W: Write>(output: &mut Output, walkers: u64, tokens: u64, down: u64, writer: &mut W)
+fn put_ground<W: Write>(output: &mut Output, walkers: u64, narrow: u64, down: u64, writer: &mut W)
     requires walkers { walkers ≤ 1000000 }
-    requires tokens { tokens ≤ 1000000 }
-    ensures { Puts output.old output.new (ground walkers tokens down) (W.contents writer.old)
+    requires narrow { narrow ≤ 2000000 }
+    ensures { Puts output.old output.new (ground walkers narrow down) (W.contents writer.old)
         (W.contents writer.new) }
 {
-    put_left(output, walkers, tokens, down, writer);
-    put_others(output, walkers, tokens, down, writer);
+    put_left(output, walkers, narrow, down, writer);
+    put_others(output, walkers, narrow, down, writer);
 }
 
 #[tactic(auto, using(am_script::proofs::Pieces::puts_two))]
-fn put_left<W: Write>(output: &mut Output, walkers: u64, tokens: u64, down: u64, writer: &mut W)
+fn put_left<W: Write>(output: &mut Output, walkers: u64, narrow: u64, down: u64, writer: &mut W)
     requires walkers { walkers ≤ 1000000 }
-    requires tokens { tokens ≤ 1000000 }
-    ensures { Puts output.old output.new (rules (844 + 44 * walkers + 20 * tokens) down
+    requires narrow { narrow ≤ 2000000 }
+    ensures { Puts output.old output.new (rules (844 + 44 * walkers + 20 * narrow) down
         ++ walker_lanes (44 * walkers) down) (W.contents writer.old) (W.contents writer.new) }
 {
-    put_rules(output, 844 + 44 * walkers + 20 * tokens, down, writer);
+    put_rules(output, 844 + 44 * walkers + 20 * narrow, down, writer);
     put_walker_lanes(output, 44 * walkers, down, writer);
 }
 
 #[tactic(auto, using(am_script::proofs::Pieces::puts_three))]
-fn put_others<W: Write>(output: &mut Output, walkers: u64, tokens: u64, down: u64, writer: &mut W)
+fn put_others<W: Write>(output: &mut Output, walkers: u64, narrow: u64, down: u64, writer: &mut W)
     requires walkers { walkers ≤ 1000000 }
-    requires tokens { tokens ≤ 1000000 }
+    requires narrow { narrow ≤ 2000000 }
     ensures { Puts output.old output.new (edges down (320 + 44 * walkers)
-        ++ (token_title (328 + 44 * walkers) ++ right_columns (shift walkers tokens) down))
+        ++ (token_title (328 + 44 * walkers) ++ right_columns (shift walkers narrow) down))
         (W.contents writer.old) (W.contents writer.new) }
 {
     put_edges(output, down, 320 + 44 * walkers, writer);
     put_token_title(output, 328 + 44 * walkers, writer);
-    put_right(output, shift(walkers, tokens), down, writer);
+    put_right(output, shift(walkers, narrow), down, writer);
 }
 
 #[tactic(auto, using(am_script::proofs::Pieces::puts_three))]
@@ -239,14 +239,45 @@ fn put_count<W: Write>(output: &mut Output, rows: u64, events: u64, writer: &mut
     put_closing(output, writer);
 }
 
-#[tactic(auto, using(am_script::proofs::Pieces::puts_three))]
-fn put_count_words<W: Write>(output: &mut Output, rows: u64, events: u64, writer: &mut W)
-    ensures { Puts output.old output.new (count_words rows events) (W.contents writer.old)
+#[tactic(auto, using(am_script::proofs::Pieces::puts_none))]
+fn put_none_words<W: Write>(output: &mut Output, rows: u64, writer: &mut W)
+    ensures { Puts output.old output.new (none_words rows) (W.contents writer.old)
+        (W.contents writer.new) }
+{
+    if rows == 0 {
+        put_word(output, b": none is drawn", writer);
+    }
+}
+
+#[tactic(auto, using(am_views::proofs::FourPieces::puts_four))]
+fn put_row_count_words<W: Write>(output: &mut Output, rows: u64, events: u64, writer: &mut W)
+    ensures { Puts output.old output.new (row_count_words rows events) (W.contents writer.old)
         (W.contents writer.new) }
 {
     put_number(output, b"", rows, writer);
     put_number(output, b" of ", events, writer);
     put_word(output, b" events", writer);
+    put_none_words(output, rows, writer);
+}
+
+fn put_count_words<W: Write>(output: &mut Output, rows: u64, events: u64, writer: &mut W)
+    ensures { Puts output.old output.new (count_words rows events) (W.contents writer.old)
+        (W.contents writer.new) }
+{
+    if events == 0 {
+        return put_word(output, b"no event was played", writer);
+    }
+    put_row_count_words(output, rows, events, writer)
+}
+
+/// Puts out the picture of no event.
+#[tactic(auto, using(am_script::proofs::Pieces::puts_two))]
+pub(crate) fn put_empty<W: Write>(output: &mut Output, writer: &mut W)
+    ensures { Puts output.old output.new empty_picture (W.contents writer.old)
+        (W.contents writer.new) }
+{
+    put_head_for(output, 7, 8, 0, 0, 0, writer);
+    put_word(output, b"</svg>\n", writer);
 }
 
 /// Puts out the bars that reach to the bottom of the last of so many rows, of which there are some.

@@ -1,7 +1,7 @@
 //! What lasts from one event to the next.
 
 ghost use Rattle.std.specs.Prelude.{◌≡◌, length, OnOk};
-ghost use Rattle.am_draw.specs.Lasting.{token_look, lasts_of, nothing_lasts, with_walker, with_token, changed, seen_behind, with_sighted, acted, behind, with_token_lane, with_walker_lane, roomed, roomed_for, seen_added, added};
+ghost use Rattle.am_draw.specs.Lasting.{token_look, lasts_of, nothing_lasts, with_walker, with_token, with_catatonic, with_reattached, with_dead, with_living, changed, seen_behind, with_sighted, acted, behind, with_token_lane, with_walker_lane, with_system_lane, with_daemon_lane, roomed, roomed_for, seen_added, added};
 
 use am_lanes::{Ending, Holder, Lanes, Look};
 use am_names::{FsId, Token, WalkerId};
@@ -9,11 +9,18 @@ use am_wire::PacketType;
 use am_world::{Event, Obs};
 use std::alloc::{AllocError, Global};
 
-/// The lanes of tokens and of walkers.
+/// There is one daemon, and this is its number.
+const THE_DAEMON: u32 = 0;
+
+/// The lanes of what lasts.
 #[derive(Drop)]
 pub struct Lasting {
     pub tokens: Lanes,
     pub walkers: Lanes,
+    /// Of file systems that are catatonic.
+    pub systems: Lanes,
+    /// Of the daemon once it has died.
+    pub daemon: Lanes,
 }
 
 /// How an open token looks.
@@ -31,20 +38,25 @@ fn token_look(kind: PacketType, fs: FsId) -> Look
 impl Lasting {
     /// There is no lane.
     pub fn new(alloc: Global) -> Lasting
-        ensures { lasts_of result ≡ nothing_lasts 0 0 }
+        ensures { lasts_of result ≡ nothing_lasts 0 0 0 0 }
     {
         Lasting {
             tokens: Lanes::new(alloc),
             walkers: Lanes::new(alloc),
+            systems: Lanes::new(alloc),
+            daemon: Lanes::new(alloc),
         }
     }
 
     /// Nobody holds a lane any more.
     pub fn clear(&mut self)
-        ensures { lasts_of self.new ≡ nothing_lasts (length self.old.tokens) (length self.old.walkers) }
+        ensures { lasts_of self.new ≡ nothing_lasts (length self.old.tokens) (length self.old.walkers)
+            (length self.old.systems) (length self.old.daemon) }
     {
         self.tokens.clear();
         self.walkers.clear();
+        self.systems.clear();
+        self.daemon.clear();
     }
 
     /// Makes the indexes of lanes for which there was no memory.
@@ -52,7 +64,9 @@ impl Lasting {
         ensures { lasts_of self.new ≡ lasts_of self.old }
     {
         self.tokens.mend(alloc)?;
-        self.walkers.mend(alloc)
+        self.walkers.mend(alloc)?;
+        self.systems.mend(alloc)?;
+        self.daemon.mend(alloc)
     }
 
     fn place_walker(&mut self, number: u64, walker: WalkerId, look: Look)
@@ -77,6 +91,41 @@ impl Lasting {
         self.tokens.place(holder);
     }
 
+    fn make_catatonic(&mut self, number: u64, fs: FsId)
+        ensures { lasts_of self.new ≡ with_catatonic number fs (lasts_of self.old) }
+    {
+        self.tokens.end_bars(&Ending::In { fs });
+        let holder = Holder {
+            number: fs.0,
+            look: Look::Catatonic,
+            since: number,
+        };
+        self.systems.place(holder);
+    }
+
+    fn reattach(&mut self, fs: FsId)
+        ensures { lasts_of self.new ≡ with_reattached fs (lasts_of self.old) }
+    {
+        self.systems.end_bars(&Ending::Of { number: fs.0 });
+    }
+
+    fn bury(&mut self, number: u64)
+        ensures { lasts_of self.new ≡ with_dead number (lasts_of self.old) }
+    {
+        let holder = Holder {
+            number: THE_DAEMON,
+            look: Look::Dead,
+            since: number,
+        };
+        self.daemon.place(holder);
+    }
+
+    fn revive(&mut self)
+        ensures { lasts_of self.new ≡ with_living (lasts_of self.old) }
+    {
+        self.daemon.end_bars(&Ending::Of { number: THE_DAEMON });
+    }
+
     /// What is seen of the event with this number has changed who holds which lane.
     pub fn change(&mut self, number: u64, obs: &Obs)
         ensures { lasts_of self.new ≡ changed number (lasts_of self.old) obs.now }
@@ -88,10 +137,12 @@ impl Lasting {
             }
             Obs::Waits { walker, .. } => self.place_walker(number, *walker, Look::Waits),
             Obs::Answered { token, .. } => self.tokens.end_bars(&Ending::Of { number: token.0 }),
-            Obs::Catatonic { fs } => self.tokens.end_bars(&Ending::In { fs: *fs }),
+            Obs::Catatonic { fs } => self.make_catatonic(number, *fs),
             Obs::Released { walker, .. } => self.place_walker(number, *walker, Look::Idle),
             Obs::Entered { walker, .. } => self.place_walker(number, *walker, Look::Inside),
             Obs::Left { walker, .. } => self.place_walker(number, *walker, Look::Idle),
+            Obs::Reattached { fs, .. } => self.reattach(*fs),
+            Obs::Died => self.bury(number),
             _ => (),
         }
     }
@@ -116,7 +167,7 @@ impl Lasting {
         self.walkers.sight(holder);
     }
 
-    /// A walker that does something has a lane.
+    /// A walker that does something has a lane, and a daemon that attaches lives.
     pub fn act(&mut self, number: u64, event: &Event)
         ensures { lasts_of self.new ≡ acted number (lasts_of self.old) event.now }
     {
@@ -125,6 +176,8 @@ impl Lasting {
             Event::Resume { walker, .. } => self.sight_walker(number, *walker),
             Event::Leave { walker } => self.sight_walker(number, *walker),
             Event::Expire { walker, .. } => self.sight_walker(number, *walker),
+            Event::Attach { .. } => self.revive(),
+            Event::Reattach { .. } => self.revive(),
             _ => (),
         }
     }
@@ -149,15 +202,29 @@ impl Lasting {
         self.walkers.add_lane(walker.0)
     }
 
+    fn add_system(&mut self, fs: FsId) -> Result<(), AllocError>
+        ensures { OnOk result (lasts_of self.new ≡ with_system_lane fs (lasts_of self.old)) }
+    {
+        self.systems.add_lane(fs.0)
+    }
+
+    fn add_daemon(&mut self) -> Result<(), AllocError>
+        ensures { OnOk result (lasts_of self.new ≡ with_daemon_lane (lasts_of self.old)) }
+    {
+        self.daemon.add_lane(THE_DAEMON)
+    }
+
     fn make_room(&mut self, obs: &Obs) -> Result<(), AllocError>
         ensures { OnOk result (lasts_of self.new ≡ roomed (lasts_of self.old) obs.now) }
     {
         match obs {
             Obs::Queued { token, .. } => self.add_token(*token),
             Obs::Waits { walker, .. } => self.add_walker(*walker),
+            Obs::Catatonic { fs } => self.add_system(*fs),
             Obs::Released { walker, .. } => self.add_walker(*walker),
             Obs::Entered { walker, .. } => self.add_walker(*walker),
             Obs::Left { walker, .. } => self.add_walker(*walker),
+            Obs::Died => self.add_daemon(),
             _ => Ok(()),
         }
     }

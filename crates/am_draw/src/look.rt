@@ -21,6 +21,7 @@ them lanes of walkers, of open tokens, of the daemon and of mounts.</desc>\n\
 .am .expire{stroke:#b45309;stroke-opacity:.3;stroke-width:14;stroke-dasharray:5 3}\
 .am .waits{stroke:#1f5fbf;stroke-width:5;stroke-dasharray:3.25}\
 .am .inside{stroke:#a78bda;stroke-width:5}.am .walks{fill:#1f5fbf}\
+.am .mode{stroke:url(#am-hatch);stroke-width:12}.am .dead{stroke:#fff;stroke-width:2}\
 .am .leaves{stroke:#1f5fbf;stroke-width:3.5}.am .fails{fill:#b42318}\
 .am .struck{stroke:#fff;stroke-width:1.6}.am .hollow{fill:#fff;stroke:#9a3412;stroke-width:1.8}\
 .am .expires{fill:#fff;stroke:#b45309;stroke-width:2}.am .daemon{fill:#1a7f4b}\
@@ -66,7 +67,7 @@ M263 0v26M277 0v26'/>\
 <path id='am-passes' class='walks' d='M-15 5l6 4l-6 4z'/>\n\
 <circle id='am-came' class='came' r='4'/>\n<circle id='am-went' class='went' r='3.5'/>\n\
 <g id='am-catatonic'><rect class='catatonic' x='631' y='3' width='376' height='20'/>\
-<rect class='paper' x='724' y='5' width='192' height='16'/></g>\n</defs>\n\
+<rect class='paper' x='634' y='5' width='170' height='16'/></g>\n</defs>\n\
 <rect class='paper' width='100%' height='100%'/>\n\
 <g transform='translate(46 12)'>\n<path class='missing' d='M12 0v13'/>\n\
 <text class='s' x='26' y='10'>open token of a missing mount</text>\n\

@@ -1,8 +1,8 @@
 //! The marks of a picture, as elements of SVG.
 
-ghost use Rattle.std.specs.Prelude.{◌≡◌, ◌≤◌, ◌++◌, codes, decimal};
+ghost use Rattle.std.specs.Prelude.{◌≡◌, ◌≤◌, ◌+◌, ◌++◌, codes, decimal};
 ghost use Rattle.am_script.specs.{Puts};
-ghost use Rattle.am_draw.specs.Marks.{at_text, stamp, span_text, stroke, reach_text, stretch, opening, label, lane_x, shift};
+ghost use Rattle.am_draw.specs.Marks.{at_text, stamp, span_text, stroke, reach_text, stretch, opening, label, lane_x, shift, daemon_x};
 ghost use Rattle.am_draw.specs.Words.{words};
 
 use crate::part::MOST_LANES;
@@ -11,35 +11,45 @@ use am_script::answer_line::{put_number, put_word};
 use am_script::output::Output;
 use std::io::Write;
 
-/// Lanes of tokens, or of walkers.
+/// How far lanes stand apart.
 #[derive(Clone, Copy)]
 pub enum LaneKind {
-    OfTokens,
-    OfWalkers,
+    /// Those of tokens, and of file systems.
+    Narrow,
+    /// Those of walkers.
+    Wide,
 }
 
-/// The middle of a lane, behind so many lanes of walkers, in pixels from the left.
-pub(crate) fn lane_x(lanes: LaneKind, walkers: u64, lane: usize) -> u64
-    requires { walkers ≤ 1000000 }
-    ensures x { result ≡ lane_x lanes walkers lane }
-    ensures left { 332 ≤ result }
-    ensures right { result ≤ 64000338 }
+/// The middle of a lane, of which the first of its kind has it there, in pixels from the left.
+pub(crate) fn lane_x(lanes: LaneKind, first: u64, lane: usize) -> u64
+    requires { first ≤ 1000000000 }
+    ensures x { result ≡ lane_x lanes first lane }
+    ensures left { first ≤ result }
+    ensures right { result ≤ first + 44000000 }
 {
     let lane = (lane as u64).min(MOST_LANES);
     match lanes {
-        LaneKind::OfTokens => 338 + 44 * walkers + 20 * lane,
-        LaneKind::OfWalkers => 332 + 44 * lane,
+        LaneKind::Narrow => first + 20 * lane,
+        LaneKind::Wide => first + 44 * lane,
     }
 }
 
-/// How far the columns at the right are moved, behind so many lanes of walkers and of tokens.
-pub(crate) fn shift(walkers: u64, tokens: u64) -> u64
-    requires walkers { walkers ≤ 1000000 }
-    requires tokens { tokens ≤ 1000000 }
-    ensures shift { result ≡ shift walkers tokens }
-    ensures most { result ≤ 63999532 }
+/// The middle of the daemon's lane, in columns that are moved so far.
+pub(crate) fn daemon_x(moved: u64) -> u64
+    requires { moved ≤ 1000000000 }
+    ensures { result ≡ daemon_x moved }
 {
-    (44 * walkers + 20 * tokens).saturating_sub(468)
+    884 + moved
+}
+
+/// How far the columns at the right are moved, behind so many wide lanes and so many narrow ones.
+pub(crate) fn shift(wide: u64, narrow: u64) -> u64
+    requires wide { wide ≤ 1000000 }
+    requires narrow { narrow ≤ 2000000 }
+    ensures shift { result ≡ shift wide narrow }
+    ensures most { result ≤ 83999532 }
+{
+    (44 * wide + 20 * narrow).saturating_sub(468)
 }
 
 #[tactic(auto, using(am_script::proofs::Pieces::puts_two))]

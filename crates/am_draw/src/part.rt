@@ -21,6 +21,10 @@ pub struct Size {
     pub walkers: u64,
     /// How many lanes of tokens.
     pub tokens: u64,
+    /// How many lanes of file systems that are catatonic.
+    pub systems: u64,
+    /// How many lanes of the daemon: one if it dies.
+    pub daemon: u64,
 }
 
 /// Which of the events are drawn.

@@ -6,19 +6,22 @@ ghost use Rattle.am_script.specs.{entry_text, Puts};
 ghost use Rattle.am_draw.specs.Lasting.{lasts_of, changed, seen_behind, behind};
 ghost use Rattle.am_draw.specs.Marks.{stamp, label};
 ghost use Rattle.am_draw.specs.Parts.{most_rows};
-ghost use Rattle.am_draw.specs.Rows.{token_x, walker_x, inset, moved, numbered_mark, walker_mark, administrator_mark, daemon_mark, act_mark, actor_marks, kind_words, packet_words, queued_marks, answered_symbol, released_class, status_class, status_words, released_marks, named_words, book_marks, catatonic_words, shifted, obs_marks, obs_drawn, seen_drawn, marks};
+ghost use Rattle.am_draw.specs.Stretches.{moved};
+ghost use Rattle.am_draw.specs.Rows.{token_x, walker_x, system_x, inset, numbered_mark, walker_mark, administrator_mark, daemon_mark, act_mark, actor_marks, kind_words, packet_words, queued_marks, answered_symbol, released_class, status_class, status_words, released_marks, named_words, book_marks, catatonic_words, shifted, obs_marks, obs_drawn, seen_drawn, marks};
 ghost use Rattle.am_draw.specs.Trees.{mounts_marks};
 ghost use Rattle.am_draw.specs.Words.{words};
 
 use crate::lasting::Lasting;
 use crate::marks::{
-    LaneKind, lane_x, put_closing, put_number_label, put_opening, put_stamp, put_stroke, shift,
+    LaneKind, daemon_x, lane_x, put_closing, put_number_label, put_opening, put_stamp, put_stroke,
 };
-use crate::stretch::{Until, put_ended_bars, token_columns, walker_columns};
+use crate::stretch::{
+    Until, first_system, first_token, moved, put_ended_bars, put_living_bars, walker_columns,
+};
 use crate::trees::{Trees, put_mounts};
 use crate::went::{Went, mark_of};
 use crate::words::put_words;
-use am_names::{FsId, JobId, MountIds, MountRow, Name, Status, Token, Trigger, WalkerId};
+use am_names::{Attach, FsId, JobId, MountIds, MountRow, Name, Status, Token, Trigger, WalkerId};
 use am_script::answer_line::{put_entry, put_number, put_word};
 use am_script::output::Output;
 use am_state::KeptTrigger;
@@ -29,19 +32,26 @@ use std::io::Write;
 fn token_x(lasting: &Lasting, token: Token) -> u64
     ensures x { result ≡ token_x (lasts_of lasting.now) token }
     ensures left { 332 ≤ result }
-    ensures right { result ≤ 64000338 }
+    ensures right { result ≤ 88000338 }
 {
     let lane = lasting.tokens.lane_of(token.0);
-    lane_x(LaneKind::OfTokens, walker_columns(lasting), lane)
+    lane_x(LaneKind::Narrow, first_token(lasting), lane)
 }
 
 fn walker_x(lasting: &Lasting, walker: WalkerId) -> u64
     ensures x { result ≡ walker_x (lasts_of lasting.now) walker }
     ensures left { 332 ≤ result }
-    ensures right { result ≤ 64000338 }
+    ensures right { result ≤ 88000338 }
 {
     let lane = lasting.walkers.lane_of(walker.0);
-    lane_x(LaneKind::OfWalkers, walker_columns(lasting), lane)
+    lane_x(LaneKind::Wide, 332, lane)
+}
+
+fn system_x(lasting: &Lasting, fs: FsId) -> u64
+    ensures { result ≡ system_x (lasts_of lasting.now) fs }
+{
+    let lane = lasting.systems.lane_of(fs.0);
+    lane_x(LaneKind::Narrow, first_system(lasting), lane)
 }
 
 /// How far the columns of tokens are moved.
@@ -50,14 +60,6 @@ fn inset(lasting: &Lasting) -> u64
     ensures most { result ≤ 43999692 }
 {
     (44 * walker_columns(lasting)).saturating_sub(308)
-}
-
-/// How far the columns of the daemon and of mounts are moved.
-fn moved(lasting: &Lasting) -> u64
-    ensures moved { result ≡ moved (lasts_of lasting.now) }
-    ensures most { result ≤ 63999532 }
-{
-    shift(walker_columns(lasting), token_columns(lasting))
 }
 
 /// An event, and how it went for whoever made it.
@@ -69,7 +71,7 @@ pub struct Asked<'a> {
 
 /// Puts out all marks of the row of an event of which this is seen, and the bars that end in it. It
 /// takes in what is seen.
-#[tactic(auto, using(am_script::proofs::Pieces::puts_three))]
+#[tactic(auto, using(am_views::proofs::FourPieces::puts_four))]
 pub(crate) fn put_marks<W: Write>(
     output: &mut Output,
     until: &Until,
@@ -87,6 +89,7 @@ pub(crate) fn put_marks<W: Write>(
     ensures lasts { lasts_of lasting.new
         ≡ behind until.now.number (lasts_of lasting.old) asked.now.event.now seen.now }
 {
+    put_living_bars(output, until, lasting, asked.event, writer);
     lasting.act(until.number, asked.event);
     put_seen(output, until, lasting, seen, trees, writer);
     put_actor(output, lasting, asked, writer);
@@ -130,7 +133,7 @@ fn put_daemon<W: Write>(output: &mut Output, lasting: &Lasting, writer: &mut W)
     ensures { Puts output.old output.new (daemon_mark (lasts_of lasting.now))
         (W.contents writer.old) (W.contents writer.new) }
 {
-    let x = 884 + moved(lasting);
+    let x = daemon_x(moved(lasting));
     put_stamp(output, b"daemon", x, 13, writer);
 }
 
@@ -138,7 +141,7 @@ fn put_act<W: Write>(output: &mut Output, lasting: &Lasting, job: JobId, writer:
     ensures { Puts output.old output.new (act_mark (lasts_of lasting.now) job)
         (W.contents writer.old) (W.contents writer.new) }
 {
-    let x = 884 + moved(lasting);
+    let x = daemon_x(moved(lasting));
     put_numbered(output, b"daemon", x, job.0, writer);
 }
 
@@ -173,7 +176,7 @@ fn put_actor<W: Write>(output: &mut Output, lasting: &Lasting, asked: &Asked<'_>
         Event::Catatonic { .. } => put_daemon(output, lasting, writer),
         Event::Timeout { .. } => put_daemon(output, lasting, writer),
         Event::Reattach { .. } => put_daemon(output, lasting, writer),
-        Event::Die => put_stamp(output, b"cross", 884 + moved(lasting), 13, writer),
+        Event::Die => put_stamp(output, b"cross", daemon_x(moved(lasting)), 13, writer),
         Event::Kind { .. } => (),
         Event::Record { .. } => (),
         Event::Mount { .. } => put_administrator(output, lasting, writer),
@@ -325,21 +328,39 @@ fn put_obs<W: Write>(
         Obs::Recorded { trigger, entry } => {
             put_recorded(output, lasting, trigger, entry, writer)
         }
-        Obs::Reattached { attach, .. } => put_number_label(
-            output,
-            b"s",
-            895 + moved(lasting),
-            17,
-            b"attached again, by ",
-            u64::from(attach.0),
-            writer,
-        ),
+        Obs::Reattached { fs, attach } => put_reattached(output, lasting, *fs, *attach, writer),
         Obs::Died => {
             put_opening(output, b"h", 897 + moved(lasting), 17, writer);
             put_word(output, b"the daemon dies", writer);
             put_closing(output, writer)
         }
     }
+}
+
+/// Puts out where a file system is attached to again.
+#[tactic(auto, using(am_script::proofs::Pieces::puts_two))]
+fn put_reattached<W: Write>(
+    output: &mut Output,
+    lasting: &Lasting,
+    fs: FsId,
+    attach: Attach,
+    writer: &mut W,
+)
+    ensures { Puts output.old output.new (stamp (codes "edge") (system_x (lasts_of lasting.now) fs) 13
+        ++ label (codes "s") (895 + moved (lasts_of lasting.now)) 17
+        (codes "attached again, by " ++ decimal attach)) (W.contents writer.old)
+        (W.contents writer.new) }
+{
+    put_stamp(output, b"edge", system_x(lasting, fs), 13, writer);
+    put_number_label(
+        output,
+        b"s",
+        895 + moved(lasting),
+        17,
+        b"attached again, by ",
+        u64::from(attach.0),
+        writer,
+    );
 }
 
 #[tactic(auto, using(am_script::proofs::Pieces::puts_none))]
@@ -377,7 +398,7 @@ fn put_packet_label<W: Write>(output: &mut Output, x: u64, packet: &Packet, writ
 /// Puts out where the bar of a token begins, with its number and the name.
 #[tactic(auto, using(am_script::proofs::Pieces::puts_three))]
 fn put_queued<W: Write>(output: &mut Output, x: u64, token: Token, packet: &Packet, writer: &mut W)
-    requires { x ≤ 64000338 }
+    requires { x ≤ 88000338 }
     ensures { Puts output.old output.new (queued_marks x token packet.now) (W.contents writer.old)
         (W.contents writer.new) }
 {
@@ -436,7 +457,7 @@ fn put_status_label<W: Write>(output: &mut Output, x: u64, status: Status, write
 /// Puts out the arrow to a walker that is released.
 #[tactic(auto, using(am_script::proofs::Pieces::puts_two))]
 fn put_released<W: Write>(output: &mut Output, from: u64, to: u64, status: Status, writer: &mut W)
-    requires { to ≤ 64000344 }
+    requires { to ≤ 88000344 }
     ensures { Puts output.old output.new (released_marks from to status) (W.contents writer.old)
         (W.contents writer.new) }
 {
@@ -466,12 +487,12 @@ fn put_catatonic_label<W: Write>(output: &mut Output, x: u64, fs: FsId, writer: 
 #[tactic(auto, using(am_script::proofs::Pieces::puts_two))]
 fn put_catatonic<W: Write>(output: &mut Output, lasting: &Lasting, fs: FsId, writer: &mut W)
     ensures { Puts output.old output.new (stamp (codes "catatonic") (inset (lasts_of lasting.now)) 0
-        ++ label (codes "h c") (820 + inset (lasts_of lasting.now)) 17 (catatonic_words fs))
+        ++ label (codes "h c") (719 + inset (lasts_of lasting.now)) 17 (catatonic_words fs))
         (W.contents writer.old) (W.contents writer.new) }
 {
     let x = inset(lasting);
     put_stamp(output, b"catatonic", x, 0, writer);
-    put_catatonic_label(output, 820 + x, fs, writer);
+    put_catatonic_label(output, 719 + x, fs, writer);
 }
 
 fn put_fs<W: Write>(output: &mut Output, fs: FsId, writer: &mut W)

@@ -9,15 +9,15 @@ ghost use Rattle.am_draw.specs.Titles.{name, lane_name, first_names, names, toke
 
 use crate::lasting::Lasting;
 use crate::look::{left_again, right_again};
-use crate::marks::{LaneKind, lane_x, put_closing, put_number_label, put_opening, shift};
+use crate::marks::{LaneKind, lane_x, put_closing, put_number_label, put_opening};
 use crate::part::Part;
-use crate::stretch::{token_columns, walker_columns};
+use crate::stretch::{first_system, first_token, moved, walker_columns};
 use am_lanes::{Holder, Lanes, Look};
 use am_script::answer_line::{put_number, put_word};
 use am_script::output::Output;
 use std::io::Write;
 
-/// So many lanes of walkers, and of tokens, are told of.
+/// So many lanes of walkers, of tokens and of file systems are told of.
 const NAMED_LANES: usize = 64;
 
 fn put_token_name<W: Write>(output: &mut Output, number: u32, x: u64, writer: &mut W)
@@ -35,6 +35,13 @@ fn put_walker_name<W: Write>(output: &mut Output, number: u32, x: u64, writer: &
     put_number_label(output, b"s n", x - 8, 19, b"", u64::from(number), writer);
 }
 
+fn put_system_name<W: Write>(output: &mut Output, number: u32, x: u64, writer: &mut W)
+    ensures { Puts output.old output.new (label (codes "k") x 21 (codes "fs " ++ decimal number))
+        (W.contents writer.old) (W.contents writer.new) }
+{
+    put_number_label(output, b"k", x, 21, b"fs ", u64::from(number), writer);
+}
+
 /// Puts out the number of one who looks so, beside its bar.
 #[tactic(auto, using(am_script::proofs::Pieces::puts_none))]
 fn put_name<W: Write>(output: &mut Output, look: Look, number: u32, x: u64, writer: &mut W)
@@ -49,6 +56,8 @@ fn put_name<W: Write>(output: &mut Output, look: Look, number: u32, x: u64, writ
         Look::Waits => put_walker_name(output, number, x, writer),
         Look::Inside => put_walker_name(output, number, x, writer),
         Look::Idle => (),
+        Look::Catatonic => put_system_name(output, number, x, writer),
+        Look::Dead => (),
     }
 }
 
@@ -63,39 +72,36 @@ fn put_lane_name<W: Write>(output: &mut Output, lane: &Option<Holder>, x: u64, w
     }
 }
 
-/// Puts out who has a bar in the first of these lanes, behind so many of walkers.
+/// Puts out who has a bar in the first of these lanes; the first of all stands there.
 #[tactic(auto, using(am_script::proofs::Pieces::puts_none))]
 fn put_first_names<W: Write>(
     output: &mut Output,
     kind: LaneKind,
-    walkers: u64,
+    first: u64,
     lanes: &Lanes,
     writer: &mut W,
 )
-    requires { walkers ≤ 1000000 }
-    ensures { Puts output.old output.new (first_names kind walkers lanes.now)
+    requires left { 8 ≤ first }
+    requires right { first ≤ 1000000000 }
+    ensures { Puts output.old output.new (first_names kind first lanes.now)
         (W.contents writer.old) (W.contents writer.new) }
 {
     for lane in 0..NAMED_LANES {
-        let x = lane_x(kind, walkers, lane);
+        let x = lane_x(kind, first, lane);
         put_lane_name(output, &lanes.holder(lane), x, writer);
     }
 }
 
-#[tactic(auto, using(am_script::proofs::Pieces::puts_two))]
+#[tactic(auto, using(am_script::proofs::Pieces::puts_three))]
 fn put_names<W: Write>(output: &mut Output, lasting: &Lasting, writer: &mut W)
     ensures { Puts output.old output.new (names (lasts_of lasting.now)) (W.contents writer.old)
         (W.contents writer.new) }
 {
-    let walkers = walker_columns(lasting);
-    put_first_names(
-        output,
-        LaneKind::OfWalkers,
-        walkers,
-        &lasting.walkers,
-        writer,
-    );
-    put_first_names(output, LaneKind::OfTokens, walkers, &lasting.tokens, writer);
+    let token = first_token(lasting);
+    let system = first_system(lasting);
+    put_first_names(output, LaneKind::Wide, 332, &lasting.walkers, writer);
+    put_first_names(output, LaneKind::Narrow, token, &lasting.tokens, writer);
+    put_first_names(output, LaneKind::Narrow, system, &lasting.systems, writer);
 }
 
 #[tactic(auto, using(am_script::proofs::Pieces::puts_three))]
@@ -149,7 +155,7 @@ fn put_titles<W: Write>(output: &mut Output, lasting: &Lasting, writer: &mut W)
         (W.contents writer.new) }
 {
     let walkers = walker_columns(lasting);
-    let far = shift(walkers, token_columns(lasting));
+    let far = moved(lasting);
     put_left_again(output, writer);
     put_tokens_again(output, walkers, writer);
     put_right_again(output, far, writer);

@@ -12,7 +12,7 @@ use Rattle.std.proofs.lemmas.Bool.Decides.{nat_tests}
 use Rattle.std.proofs.lemmas.List.{get_or_past, get_or-take, length-set, length_push, length-take-le, take_more}
 use Rattle.am_names.proofs.Basics.{left_of_and, right_of_and}
 use Rattle.am_lanes.specs.declared.holder.Look.{Look}
-use Rattle.am_lanes.specs.declared.holder.Look.TheVariants.{Missing, Expire, Ended, Waits, Inside, Idle}
+use Rattle.am_lanes.specs.declared.holder.Look.TheVariants.{Missing, Expire, Ended, Waits, Inside, Idle, Catatonic, Dead}
 use Rattle.am_lanes.specs.declared.holder.Ending.TheVariants.{Of, In}
 use Rattle.am_lanes.specs.{Ending, Holder, ends_lane, is_of, is_free, is_in, IsNextEnding}
 use Rattle.am_lanes.specs.Bars.{at, has_ended}
@@ -143,6 +143,8 @@ in_fs Ended own e fs = cc
 in_fs Waits own e fs = cc
 in_fs Inside own e fs = cc
 in_fs Idle own e fs = cc
+in_fs Catatonic own e fs = cc
+in_fs Dead own e fs = cc
 
 pub pair_is : (look : Look) (own lane fs l : ℕ) → fs_of look ≡ Some own → is_eq (pair_cmp (own, lane) (fs, l)) ≡ ((lane == l) && is_in fs look)
 pair_is look own lane fs l e = at_pair own lane fs l ∙ swap (own == fs) (lane == l) ∙ ap (λ (b : Bool). (lane == l) && b) (sym (in_fs look own e fs))
@@ -160,6 +162,8 @@ no_pair Ended e fs = refl
 no_pair Waits e fs = refl
 no_pair Inside e fs = refl
 no_pair Idle e fs = refl
+no_pair Catatonic e fs = refl
+no_pair Dead e fs = refl
 
 in_range : (fs from most l : ℕ) → from ≤ l → l ≤ most → IsInRange pair_cmp (Included (fs, from)) (Included (fs, most)) (fs, l)
 in_range fs from most l more less = (grind (arith, nat_tests, more), grind (arith, nat_tests, less))

@@ -7,7 +7,7 @@ ghost use Rattle.am_lanes.specs.Inside.{fs_of};
 use am_names::FsId;
 use std::alloc::AllocError;
 
-/// How the bar of a token or a walker looks.
+/// How the bar of who holds a lane looks.
 #[derive(Clone, Copy)]
 pub enum Look {
     /// An open token of a mount that is missing in this file system.
@@ -22,9 +22,13 @@ pub enum Look {
     Inside,
     /// A walker that does neither: there is no bar.
     Idle,
+    /// A file system that is catatonic.
+    Catatonic,
+    /// A daemon that is dead.
+    Dead,
 }
 
-/// Who holds a lane: a token or a walker, by its number.
+/// Who holds a lane: a token, a walker, a file system or the daemon, by its number.
 #[derive(Clone, Copy)]
 pub struct Holder {
     pub number: u32,
@@ -36,7 +40,7 @@ pub struct Holder {
 /// Which bars end.
 #[derive(Clone, Copy)]
 pub enum Ending {
-    /// That of the token or the walker with this number.
+    /// That of who has this number.
     Of { number: u32 },
     /// Those of the tokens of a file system.
     In { fs: FsId },

@@ -10,7 +10,7 @@ use crate::index::Index;
 use std::alloc::{AllocError, Global};
 use std::marker::Model;
 
-/// Lanes of tokens, or of walkers. No two have the same holder. Of a table with an index a look-up
+/// Lanes of one kind, as of walkers. No two have the same holder. Of a table with an index a look-up
 /// takes no longer where there are more lanes, but for a logarithm; one without looks at all of them.
 #[derive(Drop)]
 pub struct Lanes {
@@ -180,7 +180,7 @@ impl Lanes {
         }
     }
 
-    /// The lane that a token or a walker is drawn in.
+    /// The lane that who has the number is drawn in.
     pub fn lane_of(&self, number: u32) -> usize
         ensures { result ≡ lane_of number self.now }
     {
@@ -270,7 +270,7 @@ impl Lanes {
         Ok(())
     }
 
-    /// Where a token or a walker may take no lane, one is added.
+    /// Where who has the number may take no lane, one is added.
     pub fn add_lane(&mut self, number: u32) -> Result<(), AllocError>
         ensures ok { OnOk result (self.new ≡ with_lane number self.old) }
         ensures err { OnErr result (self.new ≡ self.old) }

@@ -1,9 +1,9 @@
-use Rattle.am_draw.proofs.DrawInputs.{from_none, from_head, from_opened, opened_size}
+use Rattle.am_draw.proofs.DrawInputs.{from_nothing, from_head, from_opened, opened_size}
 use Rattle.am_draw.proofs.draw.draw_again.Goals as goal
 
 pub returns-in-Ok-None : goal.returns-in-Ok-None
 returns-in-Ok-None g c = λ sized.
-    from_none c.args.first c.args.last (g.W.Write.contents c.args.writer.now) c.args.input.now.text.items c.args.input.now.broke (rw c.in-Ok-None.field-0-is at c.in-Ok-None.ensures.ok)
+    from_nothing c.args.first c.args.last (g.W.Write.contents c.args.writer.now) (g.W.Write.contents c.draw_nothing.new.writer) c.args.input.now.text.items c.args.input.now.broke c.draw_nothing.result (rw c.in-Ok-None.field-0-is at c.in-Ok-None.ensures.ok) c.draw_nothing.ensures
 
 pub returns-in-Ok-Some : goal.returns-in-Ok-Some
 returns-in-Ok-Some g c = λ sized.

@@ -8,7 +8,7 @@ use Rattle.am_draw.proofs.draw.draw_events.Goals as goal
 
 pub loop-output-init : goal.loop-output-init
 loop-output-init g c = record {
-  going = drawing_none _ _ _ _ _ _ c.requires.lasts c.new-output.ensures.bytes c.new-output.ensures.marks c.new-output.ensures.lost;
+  going = drawing_none _ _ _ _ _ _ c.requires.lasts c.new_output-output.ensures.bytes c.new_output-output.ensures.marks c.new_output-output.ensures.line c.new_output-output.ensures.lost;
   fits = c.requires.fits;
   lines = omega (arith, c.requires.fits);
   refused = omega arith;

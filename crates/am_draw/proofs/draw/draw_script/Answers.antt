@@ -1,5 +1,5 @@
-use Rattle.std.proofs.Common.{Ok, Err}
-use Rattle.am_draw.proofs.DrawInputs.{input_ok, input_err, from_none, from_head, from_count, script_size}
+use Rattle.std.proofs.Common.{Err}
+use Rattle.am_draw.proofs.DrawInputs.{input_ok, input_err, from_nothing, from_head, from_count, script_size}
 use Rattle.am_draw.proofs.draw.draw_script.Goals as goal
 
 pub returns-in-Ok-None-clause-ok : goal.returns-in-Ok-None-clause-ok
@@ -7,7 +7,16 @@ returns-in-Ok-None-clause-ok g c =
     let reads = g.R.Read.remaining in
     let contents = g.W.Write.contents in
     let input = c.read_all-input.result in
-    input_ok c.args.first c.args.last (reads c.args.reader.now) (reads c.read_all-input.new.reader) (contents c.args.writer.now) (contents c.args.writer.now) input.text.items input.broke (Ok (record { lines = 0; refused = 0 })) c.read_all-input.ensures.read c.read_all-input.ensures.end (from_none c.args.first c.args.last (contents c.args.writer.now) input.text.items input.broke (rw c.in-Ok-None.field-0-is at c.in-Ok-None.ensures.ok))
+    let drawn = from_nothing c.args.first c.args.last (contents c.args.writer.now) (contents c.draw_nothing.new.writer) input.text.items input.broke c.draw_nothing.result (rw c.in-Ok-None.field-0-is at c.in-Ok-None.ensures.ok) c.draw_nothing.ensures in
+    input_ok c.args.first c.args.last (reads c.args.reader.now) (reads c.read_all-input.new.reader) (contents c.args.writer.now) (contents c.draw_nothing.new.writer) input.text.items input.broke c.draw_nothing.result c.read_all-input.ensures.read c.read_all-input.ensures.end drawn
+
+pub returns-in-Ok-None-clause-err : goal.returns-in-Ok-None-clause-err
+returns-in-Ok-None-clause-err g c =
+    let reads = g.R.Read.remaining in
+    let contents = g.W.Write.contents in
+    let input = c.read_all-input.result in
+    let drawn = from_nothing c.args.first c.args.last (contents c.args.writer.now) (contents c.draw_nothing.new.writer) input.text.items input.broke c.draw_nothing.result (rw c.in-Ok-None.field-0-is at c.in-Ok-None.ensures.ok) c.draw_nothing.ensures in
+    input_err c.args.first c.args.last (reads c.args.reader.now) (reads c.read_all-input.new.reader) (contents c.args.writer.now) (contents c.draw_nothing.new.writer) input.text.items input.broke c.draw_nothing.result c.read_all-input.ensures.read c.read_all-input.ensures.end c.read_all-input.ensures.kind drawn
 
 pub returns-in-Ok-clause-ok : goal.returns-in-Ok-clause-ok
 returns-in-Ok-clause-ok g c =

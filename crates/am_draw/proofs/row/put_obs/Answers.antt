@@ -9,10 +9,6 @@ pub returns-in-Released : goal.returns-in-Released
 returns-in-Released g c =
     rw (c.in-Released.is, ← c.token_x-from.ensures.x, ← c.walker_x-to.ensures.x) c.put_released.ensures
 
-pub returns-in-Reattached : goal.returns-in-Reattached
-returns-in-Reattached g c =
-    rw (c.in-Reattached.is, ← c.attach.view_is, ← c.moved-in-Reattached.ensures.moved) (rw c.from.ensures at c.put_number_label-in-Reattached.ensures)
-
 pub returns-in-Died : goal.returns-in-Died
 returns-in-Died g c =
     rw (c.in-Died.is, ← c.moved-in-Died.ensures.moved)

@@ -2,7 +2,8 @@ use Rattle.std.proofs.Common.{◌+◌, subst}
 use Rattle.am_names.specs.declared.trigger.Trigger.{Trigger}
 use Rattle.am_script.specs.{Puts}
 use Rattle.am_draw.specs.{lasts_of}
-use Rattle.am_draw.specs.Rows.{book_marks, moved}
+use Rattle.am_draw.specs.Rows.{book_marks}
+use Rattle.am_draw.specs.Stretches.{moved}
 use Rattle.am_draw.proofs.row.put_recorded.Goals as goal
 
 pub returns : goal.returns

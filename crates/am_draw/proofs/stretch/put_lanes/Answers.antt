@@ -18,7 +18,7 @@ loop-lane-preserved g c =
       within = omega (arith, next.there);
       drawn =
           subst (λ (text : List ℕ). Puts c.args.output.now c.put_holder.new.output text (contents c.args.writer.now) (contents c.put_holder.new.writer))
-          (bars_next c.args.kind c.args.walkers c.args.ending.now c.args.until.now c.lane_x-x.result lanes c.loop-lane.from c.in-Some.lane next c.lane_x-x.ensures.x)
+          (bars_next c.args.kind c.args.first c.args.ending.now c.args.until.now c.lane_x-x.result lanes c.loop-lane.from c.in-Some.lane next c.lane_x-x.ensures.x)
           (puts_two _ _ _ _ _ _ _ _ c.loop-lane.invariant.drawn bar);
     }
 
@@ -29,5 +29,5 @@ returns g c =
     let none : IsNextEnding c.args.ending.now c.loop-lane.from lanes None =
     subst (λ (o : Option ℕ). IsNextEnding c.args.ending.now c.loop-lane.from lanes o) c.in_default.is c.next_ending.ensures.next in
     subst (λ (text : List ℕ). Puts c.args.output.now c.loop-lane.output text (contents c.args.writer.now) (contents c.loop-lane.writer))
-    (bars_done c.args.kind c.args.walkers c.args.ending.now c.args.until.now lanes c.loop-lane.from c.loop-lane.invariant.within none)
+    (bars_done c.args.kind c.args.first c.args.ending.now c.args.until.now lanes c.loop-lane.from c.loop-lane.invariant.within none)
     c.loop-lane.invariant.drawn

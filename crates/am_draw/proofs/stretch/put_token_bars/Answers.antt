@@ -2,4 +2,4 @@ use Rattle.am_draw.proofs.stretch.put_token_bars.Goals as goal
 
 pub returns : goal.returns
 returns g c =
-    rw c.walker_columns-walkers.ensures.columns at c.put_lanes.ensures
+    rw c.first_token-first.ensures.first at c.put_lanes.ensures
