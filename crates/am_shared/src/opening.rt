@@ -1,6 +1,6 @@
 //! What a shared world begins with.
 
-ghost use Rattle.std.specs.Prelude.{◌≡◌, length, IfSome};
+ghost use Rattle.std.specs.Prelude.{◌≡◌, length, IfNone, IfSome};
 ghost use Rattle.am_names.specs.{IsInRange};
 
 use am_map::Map;
@@ -21,8 +21,9 @@ pub struct Opening {
 impl Opening {
     /// None where a limit isn't in its range, or there are more maps than lines, or fewer.
     pub fn new(limits: Limits, master: Master, maps: Vec<Map>) -> Option<Opening>
-        ensures { IfSome result (λ opening. (opening.limits ≡ limits)
+        ensures some { IfSome result (λ opening. (opening.limits ≡ limits)
             × (opening.master ≡ master) × (opening.maps.items ≡ maps.items)) }
+        ensures none { IfNone result (IsInRange limits → length maps.items ≡ length master → ⊥) }
     {
         if !limits.is_in_range() || maps.len() != master.entries().len() {
             return None;
