@@ -91,7 +91,7 @@ uint8_t am_trace(const uint8_t *script, size_t len, uint8_t *out, size_t cap, st
 
 /* The picture (SVG) of its events from number first to number last, from 1; all are 1 to UINT64_MAX, of
    which at most 1,000,000 are drawn. A picture without any of them has no rows, and is no fault; that of a
-   script without events has no bytes. */
+   script without events says so. */
 uint8_t am_draw(const uint8_t *script, size_t len, uint64_t first, uint64_t last, uint8_t *out, size_t cap,
                 struct am_played *played);
 

@@ -439,11 +439,14 @@ static void scripts(void)
     IS(plays(PLAY, script, &played) == 0 && played.lines == 8 && played.refused == 0);
     IS(plays(PLAY, "events\nleave 7\nkind 0 /\n", &played) == 0 && played.lines == 2 && played.refused == 1);
     IS(is_same(PLAY, "events\nleave 7\nkind 0 /\n", "err 5\nkind private\n"));
-    IS(is_same(TRACE, "events\nkind 0 /\n", "2: kind 0 /\n= kind private\n"));
-    IS(is_same(PLAY, "", "") && is_same(TRACE, "", "") && is_same(PICTURE, "", "") && is_same(WORLD, "", ""));
+    IS(is_same(TRACE, "events\nkind 0 /\n", "2: kind 0 /\n= kind private : 0\n"));
+    IS(is_same(PLAY, "", "") && is_same(TRACE, "", "") && is_same(WORLD, "", ""));
+    IS(plays(PICTURE, "", &played) == 0 && memmem(out, played.bytes, "no event was played", 19));
     for (enum view view = PLAY; view <= WORLD; view++) {
         memset(&played, CANARY, sizeof played);
-        IS(view_of(view, NULL, 0, NULL, 0, &played) == 0 && all_are((uint8_t *)&played, sizeof played, 0));
+        IS(view_of(view, NULL, 0, NULL, 0, &played) == 0 && (played.bytes > 0) == (view == PICTURE));
+        played.bytes = 0;
+        IS(all_are((uint8_t *)&played, sizeof played, 0));
     }
     faults_of_scripts();
     places_of_faults();

@@ -254,9 +254,9 @@ FAULTS = [
     (["script"], b"events\nx\n" + LONG, b"", placed(2, b"BadEvent", b"x", 1, AN_EVENT)),
     (["trace"], b"events\n" + LONG + b"x y\n" + LONG, b"", placed(10502, b"BadEvent", b"x y", 1, AN_EVENT)),
     (["trace"], b"events\nx\n" + LONG, b"", placed(2, b"BadEvent", b"x", 1, AN_EVENT)),
-    (["draw"], b"events\n" + LONG + b"x y\n" + MANY, b"", placed(10502, b"BadEvent", b"x y", 1, AN_EVENT)),
-    (["draw"], b"events\nx\n" + LONG, b"", fault(2, b"BadEvent")),
-    (["draw"], b"events\nx\n" + MANY * 10000, b"", placed(2, b"BadEvent", b"x", 1, AN_EVENT)),
+    (["world"], b"events\n" + LONG + b"x y\n" + MANY, b"", placed(10502, b"BadEvent", b"x y", 1, AN_EVENT)),
+    (["world"], b"events\nx\n" + LONG, b"", fault(2, b"BadEvent")),
+    (["world"], b"events\nx\n" + MANY * 10000, b"", placed(2, b"BadEvent", b"x", 1, AN_EVENT)),
 ]
 COMMAND_LINES = [
     (["script"], b"# nothing\n", (0, b"", b"")),
@@ -311,9 +311,7 @@ MUTE = ((["script"], SHORT + b"x\n"), (["trace"], b"events\nx\n"), (["judge"], b
 LOSSES = [
     ("trace", SHORT, 100, 0, 2), ("trace", SHORT, 7, 1, 2), ("trace", SHORT, 100, 39, 2), ("trace", SHORT, 7, 40, 3),
     ("trace", SHORT, 1, 44, 3), ("draw", SHORT, 100, 0, 2), ("draw", SHORT, 1, 1, 2), ("draw", SHORT, 100, 6000, 2),
-    ("draw", b"", 100, 0, 1), ("draw", b"events
-", 100, 6000, 1), ("draw", b"events
-", 1, 1, 1),
+    ("draw", b"", 100, 0, 1), ("draw", b"events\n", 100, 6000, 1), ("draw", b"events\n", 1, 1, 1),
     ("script", SHORT, 100, 0, 2), ("script", SHORT, 1, 8, 3),
     ("help", b"", 5000, 0, None), ("help", b"", 100, 250, None), ("help", b"", 1, 1000, None),
     ("--version", b"", 100, 0, None), ("--version", b"", 7, 15, None),
