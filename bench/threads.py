@@ -8,7 +8,7 @@ usage: bench/threads.py [RUNS]
 Each run of 16 walkers and 16 workers must end in 20 seconds and write its rounds. With little
 memory, or few threads, it must end in 20 seconds too, by its rounds or by `fault: NoMemory`.
 `processors` makes such runs of 50 rounds on 1, 2 and 4 processors, and prints of each number the median of its
-seconds on the clock, of its seconds of processor time, and of how often a thread gave its processor up or lost
+milliseconds on the clock, of those of processor time, and of how often a thread gave its processor up or lost
 it. Threads that wait sleep, so four processors may take 1.3 times the processor time of one, and no more.
 """
 
@@ -100,14 +100,14 @@ def on_processors(runs):
     there = sorted(os.sched_getaffinity(0))
     if len(there) < max(COUNTS):
         sys.exit(f"threads: expected {max(COUNTS)} processors, and there are {len(there)}")
-    print("| processors | clock s | cpu s | gave up | lost |")
+    print("| processors | clock ms | cpu ms | gave up | lost |")
     print("| ---: | ---: | ---: | ---: | ---: |")
     taken = {}
     for count in COUNTS:
         made = [measured(there[:count]) for _ in range(runs)]
         clock, cpu, gave_up, lost = (statistics.median(column) for column in zip(*made))
         taken[count] = cpu
-        print(f"| {count} | {clock:.2f} | {cpu:.2f} | {gave_up:.0f} | {lost:.0f} |", flush=True)
+        print(f"| {count} | {1000 * clock:.1f} | {1000 * cpu:.1f} | {gave_up:.0f} | {lost:.0f} |", flush=True)
     ratio = taken[max(COUNTS)] / taken[1]
     print(f"{ratio:.2f} times the processor time of one on {max(COUNTS)}, of {MOST} at most")
     return 0 if ratio <= MOST else 1
