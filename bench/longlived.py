@@ -2,23 +2,29 @@
 """Tells what a program that goes on for long takes: events of one key's lives, as many as are asked for.
 
 usage: bench/longlived.py [EVENTS..]
-(`make build` has built the program. EVENTS is 100000 1000000 10000000, if nothing else is said.)
+       bench/longlived.py library [EVENTS..]
+(`make build` has built the program, and `make library` the library. EVENTS is 100000 1000000 10000000, if nothing else
+is said.)
 
 The events come through a pipe, as from a program that drives `automount_cli script`, and the answers go to a
 pipe that is read and compared with those that must come. Each row tells the processor time of the program, the
-events in a second of it, and the most memory that it held.
+events in a second of it, and the most memory that it held. With `library` the events are asked one by one of a
+`World` of the Python module, in a process of its own each time, whose memory is told.
 """
 
 import os
+import resource
 import subprocess
 import sys
 import threading
+import time
 
 HERE = os.path.dirname(os.path.abspath(__file__))
 sys.path.insert(0, HERE)
 import generate  # noqa: E402
 
 PROGRAM = os.environ.get("BENCH_PROGRAM", HERE + "/../crates/automount_cli/out/automount_cli")
+LIBRARY = HERE + "/../out/library"
 COUNTS = (100_000, 1_000_000, 10_000_000)
 # So many lives are written at once.
 BLOCK = 1_000
@@ -76,18 +82,49 @@ def measured(events):
     return played, used.ru_utime + used.ru_stime, used.ru_maxrss / 1024
 
 
+def ask_all(events):
+    """Asks so many events of a world, and writes the row of them."""
+    sys.path.insert(0, LIBRARY)
+    import dalvicna
+
+    lines = list(generate.head("lives", 1))
+    end = lines.index("end")
+    master, rest = "\n".join(lines[1:end]), lines[end + 1 :]
+    begin, asked = time.process_time(), 0
+    with dalvicna.World(master=master, maps={rest[0].split()[1]: "\n".join(rest[1:-2])}) as world:
+        for event, answer in generate.played("lives", max(1, events // per_life())):
+            if world.ask(event) != answer:
+                sys.exit("longlived: an answer isn't as it must be")
+            asked += 1
+    row(asked, time.process_time() - begin, resource.getrusage(resource.RUSAGE_SELF).ru_maxrss / 1024)
+
+
+def row(played, seconds, memory):
+    print(f"| {played} | {seconds:.2f} | {played / max(seconds, 0.001):.0f} | {memory:.1f} |", flush=True)
+
+
 def main(words):
-    if not all(it.isdecimal() for it in words[1:]):
+    of_library = words[1:2] == ["library"]
+    counts = words[2:] if of_library else words[1:]
+    if not all(it.isdecimal() for it in counts):
         print("longlived: expected numbers of events", file=sys.stderr)
         return 2
-    if not os.access(PROGRAM, os.X_OK):
+    if not of_library and not os.access(PROGRAM, os.X_OK):
         print("longlived: expected a program that is built: make build", file=sys.stderr)
+        return 2
+    if of_library and not os.path.exists(LIBRARY + "/dalvicna.py"):
+        print("longlived: expected a library that is built: make library", file=sys.stderr)
         return 2
     print("| events | cpu s | events/s | MB at most |")
     print("| ---: | ---: | ---: | ---: |")
-    for events in [int(it) for it in words[1:]] or COUNTS:
-        played, seconds, memory = measured(events)
-        print(f"| {played} | {seconds:.2f} | {played / max(seconds, 0.001):.0f} | {memory:.1f} |", flush=True)
+    for events in [int(it) for it in counts] or COUNTS:
+        if not of_library:
+            row(*measured(events))
+        elif os.fork() == 0:
+            ask_all(events)
+            os._exit(0)
+        elif os.wait()[1]:
+            return 1
     return 0
 
 

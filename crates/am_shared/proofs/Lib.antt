@@ -6,4 +6,3 @@ pub mod SumLemmas
 pub mod ChronicleLemmas
 pub mod CallLemmas
 pub mod DeskLemmas
-pub mod BellLemmas

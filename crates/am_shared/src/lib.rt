@@ -2,7 +2,6 @@
 //! is that of a single thread.
 #![tactic(auto)]
 
-mod bells;
 mod caller;
 mod chronicle;
 mod desk;
