@@ -4,4 +4,3 @@ pub mod ActLemmas
 pub mod WentLemmas
 pub mod OtherLemmas
 pub mod TableLemmas
-pub mod BehindLemmas
