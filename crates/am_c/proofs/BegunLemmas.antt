@@ -12,19 +12,18 @@ use Rattle.am_c.specs.Sessions.{HasEvent, IsNew, NotBegun}
 abbrev behind : Opened → Told
 behind opened = events_from opened.broke opened.line (lines_in (option_copied opened.rest))
 
-begun_of : (head : List ℕ) (opened : Opened) (made : Result Session ScriptFault) → IsOpened None (script_of None head) opened → IfOk made (λ session. session.world ≡ opened.world) → IfOk made (λ session. session.answer ≡ None) → IfOk made (λ session. session.before ≡ 0) → OnOk made (behind opened ≡ only_fault None) → IfErr made (λ fault. NoNext (behind opened) fault ⊎ HasEvent (behind opened) fault) → IsNew head made
-begun_of head opened (Ok session) is world answer before told err = record {
+begun_of : (head : List ℕ) (opened : Opened) (made : Result Session ScriptFault) → IsOpened None (script_of None head) opened → IfOk made (λ session. session.world ≡ opened.world) → IfOk made (λ session. session.answer ≡ None) → OnOk made (behind opened ≡ only_fault None) → IfErr made (λ fault. NoNext (behind opened) fault ⊎ HasEvent (behind opened) fault) → IsNew head made
+begun_of head opened (Ok session) is world answer told err = record {
   opening = subst (λ (t : WorldTable). (script_of None head).opening ≡ Some (setup_of (state_of t))) (sym world) is.opening;
   world = subst (λ (t : WorldTable). state_of t ≡ initial_state_of (setup_of (state_of t))) (sym world) is.world;
   told = is.told ∙ told;
   answer = answer;
-  before = before;
 }
-begun_of head opened (Err fault) is world answer before told err =
+begun_of head opened (Err fault) is world answer told err =
     inr (inr (inr (subst (λ (t : Told). NoNext t fault ⊎ HasEvent t fault) (sym is.told) err)))
 
 -- the input was read whole
-pub begun_as : (head : List ℕ) (broke : Option ScriptFaultKind) (opened : Opened) (made : Result Session ScriptFault) → broke ≡ None → IsOpened (broken broke head) (script_of broke head) opened → IfOk made (λ session. session.world ≡ opened.world) → IfOk made (λ session. session.answer ≡ None) → IfOk made (λ session. session.before ≡ 0) → OnOk made (behind opened ≡ only_fault None) → IfErr made (λ fault. NoNext (behind opened) fault ⊎ HasEvent (behind opened) fault) → IsNew head made
+pub begun_as : (head : List ℕ) (broke : Option ScriptFaultKind) (opened : Opened) (made : Result Session ScriptFault) → broke ≡ None → IsOpened (broken broke head) (script_of broke head) opened → IfOk made (λ session. session.world ≡ opened.world) → IfOk made (λ session. session.answer ≡ None) → OnOk made (behind opened ≡ only_fault None) → IfErr made (λ fault. NoNext (behind opened) fault ⊎ HasEvent (behind opened) fault) → IsNew head made
 begun_as head broke opened made whole is =
     begun_of head opened made (subst (λ (b : Option ScriptFaultKind). IsOpened (broken b head) (script_of b head) opened) whole is)
 

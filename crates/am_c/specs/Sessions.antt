@@ -7,7 +7,8 @@ use Rattle.am_script.specs.{ScriptFault, ScriptFaultKind, Summary, LineAnswered,
 use Rattle.am_script.specs.Script.{Script}
 use Rattle.am_script.specs.declared.fault.ScriptFaultKind.TheVariants.{BadEvent, BadSection, NoMemory, ReadFailed, WriteFailed}
 use Rattle.am_views.specs.{obs_lines}
-use Rattle.am_world.specs.Capacity.{state_of}
+use Rattle.am_state.specs.{Obs}
+use Rattle.am_world.specs.Capacity.{WorldTable, state_of}
 use Rattle.am_c.specs.declared.script.AmPlayed.{AmPlayed}
 use Rattle.am_c.specs.declared.session.Session.{Session}
 use Rattle.am_c.specs.Buffer.{with_front}
@@ -44,10 +45,16 @@ abbrev pub event_said : List (List ℕ) → Result (Option Event) ScriptFaultKin
 event_said (line ∷ []) = line_read line
 event_said lines = Err BadEvent
 
--- what was answered last, and how much had been seen before, are as they were
+-- an event has handed on all that was observed before it, and nothing else has
+abbrev pub HandsOn : WorldTable → Result (Option Answer) ScriptFaultKind → WorldTable → Type 0
+HandsOn old (Ok (Some answer)) new = new.handed ≡ length old.trace
+HandsOn old (Ok None) new = new.handed ≡ old.handed
+HandsOn old (Err kind) new = new.handed ≡ old.handed
+
+-- what was answered last, and what was observed of it, are as they were
 pub record IsKept (old new : Session) : Type 0 where
   pub answer : new.answer ≡ old.answer
-  pub before : new.before ≡ old.before
+  pub handed : new.world.handed ≡ old.world.handed
 
 -- what is written of the answer, which the session keeps; nothing of a line without an event, and of
 -- a fault
@@ -55,7 +62,7 @@ abbrev pub Answers : Session → Result (Option Answer) ScriptFaultKind → Sess
 Answers old (Err kind) new written went = IsKept old new × IsNothing (Err (fault_at 1 kind)) written went
 Answers old (Ok None) new written went = IsKept old new × IsNothing (Ok no_event) written went
 Answers old (Ok (Some answer)) new written went =
-    (new.answer ≡ Some answer) × (new.before ≡ length old.world.trace)
+    (new.answer ≡ Some answer) × (new.world.handed ≡ length old.world.trace)
     × IsText 1 (answer_line answer) (one_event answer) written went
 
 -- the event of the line is answered by a step of the world, and the answer's line is written
@@ -76,9 +83,12 @@ abbrev pub TellsAnswer : Session → Session → List ℕ → Result Summary Scr
 TellsAnswer old new written went = (new ≡ old) × IsAnswer old.answer written went
 
 -- what the last event showed
+abbrev pub seen_last : Session → List Obs
+seen_last session = drop session.world.handed session.world.trace
+
 abbrev pub TellsSeen : Session → Session → List ℕ → Result Summary ScriptFault → Type 0
 TellsSeen old new written went =
-    (new ≡ old) × IsText 0 (obs_lines (drop old.before old.world.trace)) no_event written went
+    (new ≡ old) × IsText 0 (obs_lines (seen_last old)) no_event written went
 
 -- the world as it is
 abbrev pub IsShown : Option ℕ → State → List ℕ → Result Summary ScriptFault → Type 0
@@ -133,7 +143,6 @@ pub record IsBegun (head : List ℕ) (session : Session) : Type 0 where
   pub world : state_of session.world ≡ initial_state_of (setup_of (state_of session.world))
   pub told : (script_of None head).told ≡ only_fault None
   pub answer : session.answer ≡ None
-  pub before : session.before ≡ 0
 
 -- the head has a fault, or there is no memory for it or for its world
 abbrev pub IsNoHead : List ℕ → ScriptFault → Type 0

@@ -1,11 +1,11 @@
 //! A world that is played event by event.
 
-ghost use Rattle.std.specs.Prelude.{◌≡◌, ◌⊎◌, ◌+◌, ◌<◌, ◌≤◌, ◌^◌, ◌++◌, [], ◌∷◌, drop, option_copied, vec_len, None, IfOk, IfErr, OnOk};
+ghost use Rattle.std.specs.Prelude.{◌≡◌, ◌⊎◌, ◌+◌, ◌<◌, ◌≤◌, ◌^◌, ◌++◌, [], ◌∷◌, option_copied, vec_len, None, IfOk, IfErr, OnOk};
 ghost use Rattle.am_script.specs.{LineAnswered, NoNext, answer_line, events_from, fault_at, lines_in, lines_of, only_fault, size_in};
 ghost use Rattle.am_script.specs.declared.fault.ScriptFaultKind.TheVariants.{WriteFailed};
 ghost use Rattle.am_views.specs.ObsText.{obs_line, obs_lines};
 ghost use Rattle.am_world.specs.Capacity.{state_of};
-ghost use Rattle.am_c.specs.Sessions.{HasEvent, IsAnswer, IsNew, IsNotKept, IsShown, IsText, Plays, event_said, no_event, one_event};
+ghost use Rattle.am_c.specs.Sessions.{HandsOn, HasEvent, IsAnswer, IsNew, IsNotKept, IsShown, IsText, Plays, event_said, no_event, one_event, seen_last};
 
 use am_lines::cut_at_line_feed;
 use am_mountinfo::write_world;
@@ -13,19 +13,18 @@ use am_names::{Errno, NsId};
 use am_script::answer_line::{is_refused, push_answer};
 use am_script::visit::{Input, Opened, next_event, open_script};
 use am_script::{ScriptFault, ScriptFaultKind, Summary};
-use am_views::{push_observation, seen_since};
+use am_views::push_observation;
 use am_world::{Answer, Obs, World};
 use std::alloc::{AllocError, Global};
 
 /// The longest head, in bytes: 16 TiB.
 const MOST: usize = 17_592_186_044_416;
 
-/// A world, what was answered last, and how much had been seen before.
+/// A world, and what was answered last. The world keeps what was observed of that event alone.
 #[derive(Drop)]
 pub struct Session {
     pub world: World,
     pub answer: Option<Answer>,
-    pub before: usize,
 }
 
 /// Begins the world of a head, which ends with the line `events`.
@@ -80,7 +79,6 @@ fn begin_opened(alloc: Global, opened: Opened<'_>) -> Result<Session, ScriptFaul
     requires { opened.line + size_in (option_copied opened.rest) ≤ 2 ^ 63 }
     ensures world { IfOk result (λ session. session.world ≡ opened.entry.world) }
     ensures answer { IfOk result (λ session. session.answer ≡ None) }
-    ensures before { IfOk result (λ session. session.before ≡ 0) }
     ensures told { OnOk result (events_from opened.entry.broke opened.entry.line
         (lines_in (option_copied opened.entry.rest)) ≡ only_fault None) }
     ensures err { IfErr result (λ fault. NoNext (events_from opened.entry.broke opened.entry.line
@@ -98,7 +96,6 @@ fn begin_opened(alloc: Global, opened: Opened<'_>) -> Result<Session, ScriptFaul
         Ok(None) => Ok(Session {
             world,
             answer: None,
-            before: 0,
         }),
         Ok(Some(found)) => {
             let line = found.line;
@@ -122,8 +119,9 @@ fn answer_event(
     world: &mut World,
     line: &[u8],
 ) -> Result<Option<Answer>, ScriptFaultKind>
-    ensures { LineAnswered (state_of world.old) (event_said (lines_of line.now)) (state_of world.new)
-        result }
+    ensures answered { LineAnswered (state_of world.old) (event_said (lines_of line.now))
+        (state_of world.new) result }
+    ensures handed { HandsOn world.old result world.new }
 {
     let (line, behind) = cut_at_line_feed(line);
     match behind {
@@ -139,26 +137,33 @@ fn answer_line(
     line: &[u8],
 ) -> Result<Option<Answer>, ScriptFaultKind>
     requires { lines_of line.now ≡ line.now ∷ [] }
-    ensures { LineAnswered (state_of world.old) (event_said (lines_of line.now)) (state_of world.new)
-        result }
+    ensures answered { LineAnswered (state_of world.old) (event_said (lines_of line.now))
+        (state_of world.new) result }
+    ensures handed { HandsOn world.old result world.new }
 {
-    match next_event(alloc, Some(line), 0, None) {
-        Ok(None) => Ok(None),
-        Ok(Some(found)) => {
-            let answer = world.step(alloc, &found.event);
-            drop(found);
-            Ok(Some(answer))
-        }
-        // The event finds no memory before its step: it is refused, as a step refuses it.
+    let found = match next_event(alloc, Some(line), 0, None) {
+        Ok(None) => return Ok(None),
+        Ok(Some(found)) => Some(found),
         Err(
             ScriptFault {
                 kind: ScriptFaultKind::NoMemory,
                 ..
             },
-        ) => Ok(Some(Answer::Refused {
+        ) => None,
+        Err(fault) => return Err(fault.kind),
+    };
+    // Nobody can ask any more what was observed before.
+    world.let_go(alloc);
+    match found {
+        Some(found) => {
+            let answer = world.step(alloc, &found.event);
+            drop(found);
+            Ok(Some(answer))
+        }
+        // The event finds no memory before its step: it is refused, as a step refuses it.
+        None => Ok(Some(Answer::Refused {
             errno: Errno::NoMemory,
         })),
-        Err(fault) => Err(fault.kind),
     }
 }
 
@@ -214,13 +219,11 @@ pub(crate) fn play_line(
     requires { written.old.items ≡ [] }
     ensures { Plays line.now session.old session.new written.new.items result }
 {
-    let before = session.world.trace().len();
     match answer_event(alloc, &mut session.world, line) {
         Ok(None) => Ok(no_event()),
         Ok(Some(answer)) => {
             let went = write_answer(&answer, written);
             session.answer = Some(answer);
-            session.before = before;
             went
         }
         Err(kind) => Err(ScriptFault { line: 1, kind }),
@@ -241,10 +244,9 @@ pub(crate) fn tell_answer(session: &Session, written: &mut Vec<u8>) -> Result<Su
 /// Writes what the last event showed, as a trace has it.
 pub(crate) fn tell_seen(session: &Session, written: &mut Vec<u8>) -> Result<Summary, ScriptFault>
     requires { written.old.items ≡ [] }
-    ensures { IsText 0 (obs_lines (drop session.now.before session.now.world.trace)) no_event
-        written.new.items result }
+    ensures { IsText 0 (obs_lines (seen_last session.now)) no_event written.new.items result }
 {
-    match push_seen(written, seen_since(&session.world, session.before)) {
+    match push_seen(written, session.world.trace()) {
         Ok(()) => Ok(no_event()),
         Err(_) => {
             written.clear();

@@ -24,7 +24,7 @@ use am_script::answer_line::put_word;
 use am_script::output::Output;
 use am_script::visit::{Found, Input, Opened, close, next_event, open_script, read_all};
 use am_script::{ScriptFault, ScriptFaultKind, Summary};
-use am_views::{one_more, seen_since};
+use am_views::one_more;
 use am_world::{Answer, Event, Obs, World};
 use std::alloc::{AllocError, Global};
 use std::io::{Read, Write};
@@ -328,8 +328,10 @@ fn count_event(
     if is_out_of_memory(&answer) {
         return Err(AllocError);
     }
-    let seen = seen_since(world, before);
+    let seen = world.seen_since(before);
     lasting.add(number, event, seen)?;
+    // It is counted, and the world needn't keep it.
+    world.let_go(alloc);
     Ok(number)
 }
 
@@ -562,12 +564,14 @@ fn draw_event<W: Write>(
     }
     let said = say(alloc, number, event, &answer)?;
     output.begin(line, writer);
-    let seen = seen_since(world, before);
+    let seen = world.seen_since(before);
     let trees = Trees {
         before: rows.as_slice(),
         behind: world.mounts(),
     };
     put_drawn(output, part, lasting, &said, event, seen, &trees, writer);
+    // It is drawn, and the world needn't keep it.
+    world.let_go(alloc);
     Ok(said.refused)
 }
 

@@ -206,7 +206,7 @@ fn play_found<'a>(
 fn play_event(alloc: Global, world: &mut World, event: &Event) -> Result<bool, AllocError>
     ensures { IfOk result (IsPlayed (state_of world.old) event.now (state_of world.new)) }
 {
-    let answer = world.step(alloc, event);
+    let answer = world.answer(alloc, event);
     if ran_out(&answer) {
         return Err(AllocError);
     }

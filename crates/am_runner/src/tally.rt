@@ -110,7 +110,7 @@ fn left_in(trace: &[Obs]) -> usize
 pub fn tally_of(shared: &Shared) -> Tally
     ensures { IsTallyOf result shared.now }
 {
-    let trace = shared.world().trace();
+    let trace = shared.seen();
     Tally {
         rounds: rounds_in(shared.history()) as u64,
         entered: entered_in(trace) as u64,

@@ -96,7 +96,7 @@ fn answer_event(
     let read = read_line(alloc, line);
     let answered = match &read {
         Ok(None) => Ok(None),
-        Ok(Some(event)) => Ok(Some(world.step(alloc, event))),
+        Ok(Some(event)) => Ok(Some(world.answer(alloc, event))),
         // The event finds no memory before its step: it is refused, as a step refuses it.
         Err(ScriptFaultKind::NoMemory) => Ok(Some(Answer::Refused {
             errno: Errno::NoMemory,

@@ -1,5 +1,5 @@
 -- One event more.
-use Rattle.std.proofs.Common.{◌≡◌, ℕ, ◌+◌, ◌<◌, ◌≤◌, List, [], ◌∷◌, ◌++◌, length, length-append, drop}
+use Rattle.std.proofs.Common.{◌≡◌, ℕ, ◌<◌, ◌≤◌, List, [], ◌∷◌, ◌++◌, length, length-append, drop}
 use Rattle.std.proofs.Common.{refl, sym, ap, ◌∙◌, subst, arith, append_assoc, inl, inr, ⊎_elim}
 use Rattle.std.proofs.Math.Seq.{drop-append_seam}
 use Rattle.am_state.specs.{Obs}
@@ -72,17 +72,23 @@ pub flushed_now : (looks : ℕ) (put : Putter) (unsent : List Note) → IsFlushe
     → IsFlushed put unsent
 flushed_now looks put unsent = ⊎_elim (λ none. inl none) (λ (full : (looks < put.looks) × IsFull put). inr full.1)
 
+-- what a world lends of its trace is all of it, where it keeps all
+pub all_kept : (t : WorldTable) (shown : List Obs) → shown ≡ drop t.handed t.trace → t.handed ≡ 0
+    → shown ≡ t.trace
+all_kept t shown is whole = is ∙ ap (λ (n : ℕ). drop n t.trace) whole
+
 -- so all of it is kept
 pub kept_after : (s t : WorldTable) (event : Event) (answer : Answer) (history later : List Entry)
     (sent unsent collected : List Note) (looks : ℕ) (put : Putter) (left : List Note)
     → Stepped s event answer t → later ≡ history ++ entry event answer ∷ []
     → collected ≡ unsent ++ notes_of (drop (length s.trace) t.trace)
     → put.sent ++ left ≡ sent ++ collected → IsFlushedSince looks put left
-    → IsLegal history (state_of s) → sent ++ unsent ≡ notes_of s.trace
+    → IsLegal history (state_of s) → sent ++ unsent ≡ notes_of s.trace → t.handed ≡ 0
     → IsKept (record { world = t; history = later; put = put; unsent = left })
-kept_after s t event answer history later sent unsent collected looks put left step is all puts flushed legal notes = record {
+kept_after s t event answer history later sent unsent collected looks put left step is all puts flushed legal notes whole = record {
   legal = kept_legal s t event answer history later step is legal;
   notes = kept_notes s t event answer sent unsent collected put.sent left step all puts notes;
+  whole = whole;
   flushed = flushed_now looks put left flushed;
 }
 
@@ -117,10 +123,11 @@ new_notes o t is =
     ap (λ (s : State). notes_of s.trace) (sym (state_is t) ∙ is)
 
 pub new_kept : (o : Setup) (t : WorldTable) (history : List Entry) (put : Putter) (unsent : List Note)
-    → state_of t ≡ initial_state_of o → history ≡ [] → put.sent ≡ [] → unsent ≡ []
+    → state_of t ≡ initial_state_of o → t.handed ≡ 0 → history ≡ [] → put.sent ≡ [] → unsent ≡ []
     → IsKept (record { world = t; history = history; put = put; unsent = unsent })
-new_kept o t history put unsent is none sent waiting = record {
+new_kept o t history put unsent is whole none sent waiting = record {
   legal = subst (λ (l : List Entry). IsLegal l (state_of t)) (sym none) (new_legal o (state_of t) is);
   notes = (λ i. sent i ++ waiting i) ∙ sym (new_notes o t is);
+  whole = whole;
   flushed = inl (ap length waiting);
 }

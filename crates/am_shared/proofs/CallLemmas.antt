@@ -1,5 +1,5 @@
 -- The calls of callers in the one history, and their receipts.
-use Rattle.std.proofs.Common.{◌≡◌, ℕ, zero, suc, ◌+◌, ◌-◌, ◌<◌, ◌≤◌, List, [], ◌∷◌, ◌++◌, map, length, All}
+use Rattle.std.proofs.Common.{◌≡◌, ℕ, zero, suc, ◌+◌, ◌<◌, ◌≤◌, List, [], ◌∷◌, ◌++◌, length, All}
 use Rattle.std.proofs.Common.{Some, slice_get, refl, sym, ap, ◌∙◌, subst, arith, append_assoc}
 use Rattle.std.proofs.lemmas.List.{append-nil}
 use Rattle.std.proofs.lemmas.Bool.Decides.{nat_tests}
@@ -10,7 +10,7 @@ use Rattle.am_shared.specs.Calls.{all_calls, call_of, calls_of}
 use Rattle.atomic_table.specs.Seated.{TableId}
 use Rattle.atomic_table.specs.declared.shared.Seat.{Seat}
 use Rattle.am_shared.specs.{Known}
-use Rattle.am_shared.specs.Chronicle.{AreIn, caller, total, weigh, weigh_to}
+use Rattle.am_shared.specs.Chronicle.{AreIn, caller, weigh, weigh_to}
 use Rattle.am_shared.specs.Passes.{CallsOn, view_of}
 use Rattle.am_shared.proofs.SumLemmas.{total_append}
 

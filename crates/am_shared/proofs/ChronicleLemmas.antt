@@ -1,19 +1,19 @@
 -- Each move of a pass keeps the one history.
-use Rattle.std.proofs.Common.{◌≡◌, ◌≢◌, ℕ, zero, suc, ◌+◌, ◌-◌, ◌<◌, ◌≤◌, true, false, true≢false}
-use Rattle.std.proofs.Common.{List, [], ◌∷◌, ◌++◌, length, set, Some, slice_get, All, Bool, refl, sym}
+use Rattle.std.proofs.Common.{◌≡◌, ◌≢◌, ℕ, zero, suc, ◌+◌, ◌-◌, ◌<◌, true, false, true≢false}
+use Rattle.std.proofs.Common.{List, [], ◌∷◌, ◌++◌, length, set, Some, slice_get, Bool, refl, sym}
 use Rattle.std.proofs.Common.{ap, ◌∙◌, subst, ⊎_elim, length-append, arith, append_assoc}
 use Rattle.std.proofs.lemmas.List.{append-nil}
 use Rattle.std.proofs.lemmas.List.Elements.{All-append}
-use Rattle.std.specs.Prelude.{slice_index, slice_set}
-use mathlib.Core.Option.{Option, some, none, some-injective, some-ne-none}
+use Rattle.std.specs.Prelude.{slice_set}
+use mathlib.Core.Option.{Option, some, some-injective, some-ne-none}
 use mathlib.Core.List.{IsPrefix}
 use lib.ListN.{get_elem?}
-use Rattle.atomic_table.specs.Table.{State, Me, Step, step, Allows, Splits, Joins, opening, keeps}
+use Rattle.atomic_table.specs.Table.{State, Me, Allows, Splits, Joins, opening, keeps}
 use Rattle.atomic_table.proofs.Lists.{at_set, at_snoc, set_again}
 use Rattle.am_machine.specs.{Entry}
 use Rattle.am_shared.specs.declared.chronicle.Known.{Known}
-use Rattle.am_shared.specs.Chronicle.{total, known, spent, keeper, caller, weigh, weigh_to, AreIn, FitsHistory, AllFitHistory, IsHistory}
-use Rattle.am_shared.specs.Chronicle.{taken_in, rested, given_back, with_caller, recorded, IfSaid, Learned}
+use Rattle.am_shared.specs.Chronicle.{spent, keeper, caller, weigh, weigh_to, AreIn, FitsHistory, AllFitHistory, IsHistory}
+use Rattle.am_shared.specs.Chronicle.{taken_in, rested, given_back, with_caller, recorded, Learned}
 use Rattle.am_shared.proofs.SumLemmas.{total_set, total_snoc, total_append, total_all, total_one}
 
 abbrev parts_of : Known → ℕ

@@ -1,6 +1,6 @@
 -- Sums over the views of passes.
 use Rattle.std.proofs.Common.{◌≡◌, ◌≢◌, ℕ, zero, suc, ◌+◌, ◌≤◌, List, [], ◌∷◌, ◌++◌}
-use Rattle.std.proofs.Common.{set, refl, sym, ap, ◌∙◌, arith}
+use Rattle.std.proofs.Common.{set, refl, sym, ap, arith}
 use mathlib.Core.Option.{some, some-injective, some-ne-none}
 use lib.ListN.{get_elem?}
 use Rattle.am_shared.specs.Chronicle.{total}

@@ -1,6 +1,6 @@
 -- What becomes of the packets of a shared world (autofs.rst, "Communicating with autofs: the event
 -- pipe").
-use Rattle.std.specs.Prelude.{ℕ, List, ◌++◌, length}
+use Rattle.std.specs.Prelude.{ℕ, List, length}
 use Rattle.am_pipe.specs.{Note, AreAsPut, numbered}
 use Rattle.am_pipe.specs.Ends.{HasEachOnce}
 use Rattle.am_shared.specs.Sharing.{Sharing}

@@ -24,6 +24,8 @@ pub record IsKept (s : Sharing) : Type 0 where
   pub legal : IsLegal s.history (state_of s.world)
   -- the notes that were put, and then those that wait, are those of all queued packets
   pub notes : s.put.sent ++ s.unsent ≡ notes_of s.world.trace
+  -- the world keeps all that was observed
+  pub whole : s.world.handed ≡ 0
   -- they wait only where the pipe was full
   pub flushed : IsFlushed s.put s.unsent
 

@@ -93,6 +93,13 @@ impl Shared {
         self.parts.history.as_slice()
     }
 
+    /// What was observed so far: all of it.
+    pub fn seen(&self) -> &[Obs]
+        ensures { result.now ≡ self.now.world.trace }
+    {
+        self.parts.world.trace()
+    }
+
     /// How many notes wait for room in the pipe.
     pub fn unsent(&self) -> usize
         ensures { result ≡ length self.now.unsent }

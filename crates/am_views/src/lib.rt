@@ -9,4 +9,4 @@ pub mod trace;
 pub use count::one_more;
 pub use event_text::push_event;
 pub use obs_text::push_observation;
-pub use trace::{TraceStyle, seen_since, trace_script};
+pub use trace::{TraceStyle, trace_script};

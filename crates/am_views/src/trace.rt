@@ -1,6 +1,6 @@
 //! The trace of a script is printed.
 
-ghost use Rattle.std.specs.Prelude.{◌≡◌, drop, IfOk, IfErr};
+ghost use Rattle.std.specs.Prelude.{◌≡◌, IfOk, IfErr};
 ghost use Rattle.am_script.specs.{PlaysInput, StopsInput, Puts, IsAnswered, TurnDone, TurnStopped};
 ghost use Rattle.am_script.specs.Script.{line_read};
 ghost use Rattle.am_views.specs.Traced.{asked_line, number_part, told_line, shown_text, traced};
@@ -110,20 +110,12 @@ fn show<W: Write>(
         line,
         event,
         &answer,
-        seen_since(world, before),
+        world.seen_since(before),
         writer,
     );
+    // It is written, and the world needn't keep it.
+    world.let_go(alloc);
     is_refused(&answer)
-}
-
-/// What was observed behind so many observations.
-pub fn seen_since(world: &World, before: usize) -> &[Obs]
-    ensures { result.now ≡ drop before world.now.trace }
-{
-    match world.trace().get(before..) {
-        Some(seen) => seen,
-        None => &[],
-    }
 }
 
 #[tactic(auto, using(am_script::proofs::Pieces::puts_three))]

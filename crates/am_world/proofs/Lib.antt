@@ -4,3 +4,4 @@ pub mod ActLemmas
 pub mod WentLemmas
 pub mod OtherLemmas
 pub mod TableLemmas
+pub mod BehindLemmas

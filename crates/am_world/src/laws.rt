@@ -1,6 +1,8 @@
 //! Laws: what is true of every trace, of every run and of every step, and what can always be done
 //! next.
 
+ghost use Rattle.am_world.specs.{OutcomesReadNoTrace};
+
 pub use am_laws::trace_holds;
 pub use am_machine::laws::{
     moments_rise, refusals_change_nothing, runs_agree, runs_are_in_step, runs_are_lawful,
@@ -14,3 +16,9 @@ pub use am_progress::laws::{
     queued_packets_can_be_delivered, service_lasts_until_its_end_is_seen,
     waiting_walkers_can_go_on,
 };
+
+/// No outcome reads the trace: in worlds whose halves are equal an event has the same answer, shows
+/// the same, and leaves equal halves, whatever was observed before.
+pub fn outcomes_read_no_trace()
+    ensures { OutcomesReadNoTrace }
+{}

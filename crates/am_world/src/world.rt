@@ -1,6 +1,6 @@
 //! The world: what happens to it, event by event.
 
-ghost use Rattle.std.specs.Prelude.{◌≡◌, List, [], ◌∷◌, length, None, IfOk, IfErr};
+ghost use Rattle.std.specs.Prelude.{◌≡◌, ◌+◌, List, [], ◌∷◌, drop, length, None, IfOk, IfErr};
 ghost use Rattle.std.specs.Option.{option_map, option_copied};
 ghost use Rattle.am_names.specs.{RefusedAs, IsInRange};
 ghost use Rattle.am_state.specs.{Obs};
@@ -23,20 +23,25 @@ use am_map::Map;
 use am_master::Master;
 use am_names::{Errno, JobId, Limits, Token, WalkerId};
 use am_state::Obs;
+use am_trail::Trail;
 use std::alloc::Global;
 use std::marker::Model;
+use std::mem;
 
-/// A world: the kernel's half and the daemon's, and the trace of what was observed.
+/// A world: the kernel's half and the daemon's, and the trace of what was observed, but for what of
+/// it was handed on.
 pub struct World {
     pub(crate) machine: Machine,
+    pub(crate) handed: Trail<Obs>,
 }
 
 // Written by hand, it is proved here once: a derived one is proved again in each crate that lets a
 // world go, and field by field in each function that has one at an early return.
 impl Drop for World {
     fn drop(self) {
-        let World { machine } = self;
+        let World { machine, handed } = self;
         drop(machine);
+        drop(handed);
     }
 }
 
@@ -93,6 +98,16 @@ fn know_paths(event: &Event)
     }
 }
 
+/// The observations behind the first so many of these.
+fn behind(seen: &[Obs], before: usize) -> &[Obs]
+    ensures { result.now ≡ drop before seen.now }
+{
+    match seen.get(before..) {
+        Some(rest) => rest,
+        None => &[],
+    }
+}
+
 impl World {
     /// The initial world of a master map, with the maps of its lines in their order.
     pub fn new(
@@ -109,6 +124,7 @@ impl World {
           master = master;
           maps = maps.items;
         })) }
+        ensures kept { IfOk result (λ world. world.handed ≡ 0) }
     {
         let daemon = Daemon::new(alloc, master, maps);
         let kernel = Kernel::new(alloc, limits)?;
@@ -118,20 +134,54 @@ impl World {
                 daemon,
                 trace: Vec::new(alloc),
             },
+            handed: Trail::new(),
         })
     }
 
-    /// What was observed so far. It is lawful, the world is what it tells of it, and kernel and daemon
-    /// agree. The world came by a run from its opening, so that each law of runs is one of it.
+    /// What was observed so far, but for what was handed on. All of it is lawful, the world is what it
+    /// tells of it, and kernel and daemon agree. The world came by a run from its opening, so that
+    /// each law of runs is one of it.
     pub fn trace(&self) -> &[Obs]
-        ensures trace { result.now ≡ self.now.trace }
-        ensures lawful { Lawful result.now }
+        ensures trace { result.now ≡ drop self.now.handed self.now.trace }
+        ensures count { self.now.handed + length result.now ≡ length self.now.trace }
+        ensures lawful { Lawful self.now.trace }
         ensures tells { IsTold (state_of self.now) }
         ensures reached { IsReached (state_of self.now) }
         ensures agree { Agree (state_of self.now) }
         ensures in_step { AreInStep (state_of self.now) }
     {
         self.machine.trace.as_slice()
+    }
+
+    /// What was observed behind the first so many observations that `trace` has.
+    pub fn seen_since(&self, before: usize) -> &[Obs]
+        ensures { result.now ≡ drop (self.now.handed + before) self.now.trace }
+    {
+        behind(self.machine.trace.as_slice(), before)
+    }
+
+    /// Hands on what `trace` has: the world keeps it no longer. It is the same in all else, and what
+    /// was handed on stays part of what each law speaks of.
+    pub fn hand_on(&mut self, alloc: Global) -> Vec<Obs>
+        ensures seen { result.items ≡ drop self.old.handed self.old.trace }
+        ensures handed { self.new.handed ≡ length self.new.trace }
+        ensures trace { self.new.trace ≡ self.old.trace }
+        ensures same { state_of self.new ≡ state_of self.old }
+    {
+        let seen = mem::replace(&mut self.machine.trace, Vec::new(alloc));
+        self.handed.hand_on(seen)
+    }
+
+    /// Hands on what `trace` has to nobody, and keeps its room for what is observed next.
+    pub fn let_go(&mut self, alloc: Global)
+        ensures handed { self.new.handed ≡ length self.new.trace }
+        ensures trace { self.new.trace ≡ self.old.trace }
+        ensures same { state_of self.new ≡ state_of self.old }
+    {
+        let seen = mem::replace(&mut self.machine.trace, Vec::new(alloc));
+        let mut seen = self.handed.hand_on(seen);
+        seen.clear();
+        self.machine.trace = seen;
     }
 
     /// The bytes of the queued packet of a token, if there is one.
@@ -161,11 +211,24 @@ impl World {
 
     /// One step of the machine.
     pub fn step(&mut self, alloc: Global, event: &Event) -> Answer
-        ensures { (seen : List Obs) ×
+        ensures step { (seen : List Obs) ×
             Step (state_of self.old) event.now result seen (state_of self.new) }
+        ensures kept { self.new.handed ≡ self.old.handed }
     {
         know_paths(event);
         told(self.machine.handle(alloc, event))
+    }
+
+    /// One step of the machine, of which nobody asks what was observed: that is handed on to nobody,
+    /// with what `trace` had before.
+    pub fn answer(&mut self, alloc: Global, event: &Event) -> Answer
+        ensures step { (seen : List Obs) ×
+            Step (state_of self.old) event.now result seen (state_of self.new) }
+        ensures handed { self.new.handed ≡ length self.new.trace }
+    {
+        let answer = self.step(alloc, event);
+        self.let_go(alloc);
+        answer
     }
 
     /// One step of the machine, with its answer twice.
@@ -174,6 +237,7 @@ impl World {
             Step (state_of self.old) event.now result.0 seen (state_of self.new) }
         ensures legal { GoesOnBy (entry event.now result.0 ∷ []) (state_of self.old)
             (state_of self.new) }
+        ensures kept { self.new.handed ≡ self.old.handed }
         ensures same { result.1 ≡ result.0 }
     {
         let Ok(made_ahead) = self.machine.made_ahead(alloc, event) else {
@@ -203,6 +267,7 @@ pub fn run(alloc: Global, mut world: World, events: &[Event]) -> Result<Ran, Wor
     ensures reached { IfOk result (λ ran. IsReached (state_of ran.world)) }
     ensures agree { IfOk result (λ ran. Agree (state_of ran.world)) }
     ensures in_step { IfOk result (λ ran. AreInStep (state_of ran.world)) }
+    ensures kept { IfOk result (λ ran. ran.world.handed ≡ world.handed) }
     ensures err { IfErr result (λ same. same ≡ world) }
 {
     let Ok(mut answers) = Vec::with_capacity(alloc, events.len()) else {

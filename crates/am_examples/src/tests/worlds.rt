@@ -1,6 +1,7 @@
 //! For the author of tests: a world, event by event.
 
-ghost use Rattle.am_machine.specs.{UnmountsNothingInUse};
+ghost use Rattle.std.specs.Prelude.{◌≡◌, length};
+ghost use Rattle.am_machine.specs.{Step, UnmountsNothingInUse};
 ghost use Rattle.am_world.specs.Capacity.{state_of};
 
 use am_job::Act;
@@ -12,7 +13,7 @@ use am_names::{
 };
 use am_world::laws::{steps_unmount_nothing_in_use, trace_holds};
 use am_world::{Answer, Event, Obs, Ran, World, run};
-use std::alloc::Global;
+use std::alloc::{AllocError, Global};
 use std::test::Fail;
 
 const LIMITS: Limits = Limits {
@@ -202,6 +203,45 @@ fn a_run_serves_the_walk(rt: HostRuntime) -> Result<(), Fail> {
     let world = world(rt.alloc())?;
     let is_served = serves(rt.alloc(), world, events.as_slice());
     assert!(rt; is_served);
+    Ok(())
+}
+
+/// Makes an event, and gives its answer with what was observed of it, which the world doesn't keep.
+fn observe(alloc: Global, world: &mut World, event: &Event) -> (Answer, Vec<Obs>)
+    requires { world.old.handed ≡ length world.old.trace }
+    ensures step { Step (state_of world.old) event.now result.0 result.1.items
+        (state_of world.new) }
+    ensures handed { world.new.handed ≡ length world.new.trace }
+{
+    let answer = world.step(alloc, event);
+    (answer, world.hand_on(alloc))
+}
+
+/// Makes all events, and keeps what was observed in a list of its own.
+fn observe_all(alloc: Global, world: &mut World, events: &[Event]) -> Result<Vec<Obs>, AllocError> {
+    let mut all = world.hand_on(alloc);
+    for event in events {
+        let (answer, mut seen) = observe(alloc, world, event);
+        drop(answer);
+        all.append(&mut seen)?;
+    }
+    Ok(all)
+}
+
+/// Whether the list has a release and is lawful, and the world keeps nothing.
+fn goes_on(alloc: Global, world: &mut World, events: &[Event]) -> Result<bool, AllocError> {
+    let all = observe_all(alloc, world, events)?;
+    let is_kept = world.trace().is_empty();
+    Ok(is_kept && all.iter().any(is_release) && trace_holds(all.as_slice()))
+}
+
+#[test]
+fn a_world_hands_on_what_was_observed(rt: HostRuntime) -> Result<(), Fail> {
+    let events = events(rt.alloc())?;
+    let mut world = world(rt.alloc())?;
+    let goes_on = goes_on(rt.alloc(), &mut world, events.as_slice());
+    drop(world);
+    assert!(rt; goes_on?);
     Ok(())
 }
 

@@ -1,4 +1,4 @@
-use Rattle.std.proofs.Common.{ap, arith, sym, ◌∙◌}
+use Rattle.std.proofs.Common.{ap, arith, ◌∙◌}
 use Rattle.am_shared.proofs.ChronicleLemmas.{hands, rests}
 use Rattle.am_shared.proofs.chronicle.meet.Goals as goal
 

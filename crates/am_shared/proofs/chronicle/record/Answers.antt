@@ -1,6 +1,6 @@
 use prog.Atomic.{either}
 use Rattle.std.specs.Prelude.{◌==◌}
-use Rattle.std.proofs.Common.{ap, arith, sym, ◌∙◌}
+use Rattle.std.proofs.Common.{ap, arith, ◌∙◌}
 use Rattle.am_shared.proofs.ChronicleLemmas.{hands, records, rests}
 use Rattle.am_shared.proofs.chronicle.record.Goals as goal
 

@@ -1,4 +1,4 @@
-use Rattle.std.proofs.Common.{ap, arith, sym, ◌∙◌}
+use Rattle.std.proofs.Common.{ap, arith, ◌∙◌}
 use Rattle.am_shared.proofs.ChronicleLemmas.{takes_in, learns}
 use Rattle.am_shared.proofs.chronicle.take_in.Goals as goal
 

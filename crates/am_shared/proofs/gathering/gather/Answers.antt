@@ -4,7 +4,6 @@ use Rattle.am_shared.specs.{AtMostOnce, EachAgree, EachRise, Matches, Receipt, c
 use Rattle.am_shared.specs.Calls.{all_calls, calls_of}
 use Rattle.am_shared.specs.Chronicle.{AreIn, weigh, weigh_to}
 use Rattle.am_shared.specs.Passes.{view_of}
-use Rattle.am_shared.specs.Sharing.{Sharing}
 use Rattle.am_shared.proofs.CallLemmas.{all_calls_agree, all_match, all_snoc, at_most, counts, each_rise_snoc}
 use Rattle.am_shared.proofs.gathering.gather.Goals as goal
 

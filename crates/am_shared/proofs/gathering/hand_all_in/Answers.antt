@@ -1,8 +1,7 @@
-use Rattle.std.proofs.Common.{◌≡◌, ◌+◌, ◌++◌, ◌∷◌, [], ℕ, List, rules, sym, ap, ◌∙◌, subst, append_assoc, arith, length}
+use Rattle.std.proofs.Common.{◌≡◌, ◌+◌, ◌++◌, ◌∷◌, [], List, rules, sym, ap, ◌∙◌, subst, append_assoc, arith, length}
 use Rattle.std.proofs.lemmas.List.{append-nil}
 use Rattle.std.specs.Vec.Iter.{into_iter_items, into_iter_len}
 use Rattle.am_pipe.proofs.CountLemmas.{empty_where_length_is_zero}
-use Rattle.am_machine.specs.{Entry}
 use Rattle.am_shared.specs.{EachRise, Known, Receipt, Rise}
 use Rattle.am_shared.specs.Calls.{all_calls, calls_of}
 use Rattle.am_shared.specs.Passes.{view_of}

@@ -1,4 +1,4 @@
-use Rattle.std.proofs.Common.{ltb, sym, arith, rules, tests}
+use Rattle.std.proofs.Common.{ltb, rules, tests}
 use Rattle.std.proofs.lemmas.List.Sorted.{IsPartitionedBy-ltb, IsPartitionPoint-from_clause}
 use Rattle.am_shared.specs.{Receipt}
 use Rattle.am_shared.proofs.MatchLemmas.{rise_sorted, found_at, found_nowhere}

@@ -1,5 +1,4 @@
 use Rattle.std.proofs.Common.{◌≡◌, drop}
-use Rattle.std.specs.Prelude.{◌↔◌}
 use Rattle.am_shared.specs.{EachRise, times_in}
 use Rattle.am_shared.proofs.matching.is_away.Given as goal
 

@@ -6,6 +6,6 @@ pub returns : goal.returns
 returns c =
     let old = state_of c.args.world.now in
     let reached = c.trace.ensures.reached in
-    let step = c.step.ensures in
+    let step = c.step.ensures.step in
     c.steps_unmount_nothing_in_use.ensures (setup_of old) reached.events reached.answers old reached.run
     c.args.event.now c.step.result step.0 _ step.1

@@ -1,4 +1,4 @@
-use Rattle.std.proofs.Common.{◌≡◌, ℕ, ◌-◌, List, [], ◌∷◌, ◌++◌, Some, slice_get, length, rules, sym, ap, ◌∙◌, subst}
+use Rattle.std.proofs.Common.{◌≡◌, ◌-◌, List, [], ◌∷◌, ◌++◌, Some, slice_get, length, rules, sym, ap, ◌∙◌, subst}
 use Rattle.am_machine.specs.{Entry, entry}
 use Rattle.am_shared.specs.{Known}
 use Rattle.am_shared.specs.Chronicle.{AreIn, keeper}

@@ -1,6 +1,4 @@
-use Rattle.std.proofs.Common.{List, subst}
-use Rattle.am_state.specs.{Obs}
-use Rattle.am_laws.specs.{Lawful}
+use Rattle.std.proofs.Common.{subst}
 use Rattle.am_shared.specs.{IsShared}
 use Rattle.am_shared.specs.Sharing.{Sharing}
 use Rattle.am_shared.proofs.shared.Shared.into_parts.Goals as goal
@@ -8,7 +6,7 @@ use Rattle.am_shared.proofs.shared.Shared.into_parts.Goals as goal
 pub returns-clause-shared : goal.returns-clause-shared
 returns-clause-shared c = subst (λ (s : Sharing). IsShared s) c.self.view_is (record {
   kept = c.self.invariant;
-  lawful = subst (λ (l : List Obs). Lawful l) c.trace.ensures.trace c.trace.ensures.lawful;
+  lawful = c.trace.ensures.lawful;
   tells = c.trace.ensures.tells;
   reached = c.trace.ensures.reached;
   agree = c.trace.ensures.agree;
