@@ -19,7 +19,7 @@ use Rattle.am_lanes.specs.declared.holder.Ending.TheVariants.{Of, In}
 use Rattle.am_draw.specs.declared.failing.Failing.{Failing}
 use Rattle.am_draw.specs.declared.part.Part.{Part}
 use Rattle.am_draw.specs.Drawn.{Viewed, ViewedRun, asked_in, first_lasts, lasts_behind, size_of}
-use Rattle.am_draw.specs.Failing.{lasting_in}
+use Rattle.am_draw.specs.Failures.{lasting_in}
 use Rattle.am_draw.specs.Lasting.{Lasts, the_daemon, token_look}
 use Rattle.am_draw.specs.Parts.{is_past}
 

@@ -9,7 +9,7 @@ use Rattle.am_draw.specs.declared.failing.Failing.{Failing}
 use Rattle.am_draw.specs.declared.marks.LaneKind.TheVariants.{Narrow}
 use Rattle.am_draw.specs.declared.stretch.Until.{Until}
 use Rattle.am_draw.specs.Errors.{error_word}
-use Rattle.am_draw.specs.Failing.{empty_lane, is_failing}
+use Rattle.am_draw.specs.Failures.{empty_lane, is_failing}
 use Rattle.am_draw.specs.Lasting.{Lasts, fresh_in, with_ended}
 use Rattle.am_draw.specs.Marks.{first_system, label, lane_x, stretch}
 use Rattle.am_draw.specs.Stretches.{daemon_bars, reach, system_bars, system_columns, token_bars, token_columns, walker_bars, walker_columns}

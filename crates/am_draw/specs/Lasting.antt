@@ -13,7 +13,7 @@ use Rattle.am_lanes.specs.declared.holder.Look.TheVariants.{Missing, Expire, Wai
 use Rattle.am_lanes.specs.declared.holder.Ending.TheVariants.{Of, In}
 use Rattle.am_draw.specs.declared.failing.Failing.{Failing}
 use Rattle.am_draw.specs.declared.lasting.Lasting.{Lasting}
-use Rattle.am_draw.specs.Failing.{fresh, kept_failing, with_empty, with_failing}
+use Rattle.am_draw.specs.Failures.{fresh, kept_failing, with_empty, with_failing}
 
 -- The lanes of tokens, of walkers and of catatonic file systems, the daemon's once it has died, and those
 -- of failures that last, and for how many seconds each does.

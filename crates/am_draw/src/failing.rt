@@ -2,7 +2,7 @@
 
 ghost use Rattle.std.specs.Prelude.{◌≡◌, ◌≤◌, length, map, replicate, is_none, None, OnOk};
 ghost use Rattle.std.specs.List.{list_any, position_or_len};
-ghost use Rattle.am_draw.specs.Failing.{same_failure, lasting_in, is_failing, kept_failing, is_at, has_failing, empty_lane, with_failing, with_empty, newest, fresh};
+ghost use Rattle.am_draw.specs.Failures.{same_failure, lasting_in, is_failing, kept_failing, is_at, has_failing, empty_lane, with_failing, with_empty, newest, fresh};
 
 use am_names::{Seconds, Trigger};
 use am_world::{Failure, Failures, World};

@@ -5,7 +5,8 @@ use Rattle.std.specs.Option.{option_and_then}
 use Rattle.am_names.specs.{fail_number, same_trigger}
 use Rattle.am_names.specs.declared.trigger.Trigger.{Trigger}
 use Rattle.am_kernel.specs.{KernelState}
-use Rattle.am_trigger.specs.{Failure, FailureRows, failure_of, lasts}
+use Rattle.am_trigger.specs.{Failure, FailureRows, failure_of}
+use Rattle.am_trigger.specs.Failures.{lasts}
 use Rattle.am_draw.specs.declared.failing.Failing.{Failing}
 
 -- ---- what lasts
