@@ -1,9 +1,10 @@
 -- Lanes of failures: as many as they come to are enough, and those that last have them.
-use Rattle.std.proofs.Common.{◌≡◌, ◌⊎◌, ℕ, zero, suc, ◌+◌, ◌-◌, ◌≤◌, Bool, true, false, List, [], ◌∷◌, ◌++◌, length, map, get_or, replicate, Option, None, Some, refl, sym, ap, subst, ◌∙◌, inl, inr, ⊎_elim, append_assoc, append-nil, arith, if◌then◌else◌}
+use Rattle.std.proofs.Common.{◌≡◌, ◌⊎◌, ℕ, zero, suc, ◌+◌, ◌-◌, ◌≤◌, Bool, true, false, List, [], ◌∷◌, ◌++◌, length, map, get_or, set, replicate, Option, None, Some, refl, sym, ap, subst, ◌∙◌, inl, inr, ⊎_elim, append_assoc, append-nil, arith, cond, ltb, if◌then◌else◌}
 use Rattle.std.specs.Prelude.{◌||◌, nat_lt, is_none}
-use Rattle.std.specs.List.{list_any}
+use Rattle.std.specs.List.{list_any, position}
 use Rattle.std.specs.Option.{option_and_then}
 use Rattle.std.proofs.lemmas.Bool.{lt-ltb, ltb-true}
+use Rattle.std.proofs.lemmas.Bool.Decides.{nat_tests}
 use Rattle.std.proofs.lemmas.List.{length-append, length-map}
 use Rattle.am_names.specs.{fail_no_numbered, fail_number, same_trigger}
 use Rattle.am_names.specs.declared.fail_no.FailNo.{FailNo}
@@ -15,7 +16,7 @@ use Rattle.std.proofs.lemmas.Bool.{eq-eqb}
 use Rattle.am_kernel.specs.{KernelState}
 use Rattle.am_trigger.specs.{Failure, FailureRows, failure_of}
 use Rattle.am_trigger.specs.Failures.{lasts}
-use Rattle.am_draw.specs.{Failing, fresh, kept_failing, with_empty, with_failing}
+use Rattle.am_draw.specs.{Failing, empty_lane, fresh, kept_failing, with_empty, with_failing}
 use Rattle.am_draw.specs.Failures.{failing_at, has_failing, if_fresh, is_at, is_failing, is_that, lasting_in, newest, same_failure, still}
 use Rattle.am_draw.specs.Changes.{HasFailure, HaveFailures, failure_in}
 
@@ -557,3 +558,35 @@ failures_are_seen k last ps later whole count negative parted wide same none fol
     let own = subst (λ (n : ℕ). Have n (padded count (all_grown k.negative [] ps)) last) (sym (same_negative k last ps follow)) have in
     subst (λ (t : List (Option Failing)). HaveFailures t last) (sym lanes)
     (record { there = own.there; no_other = own.no_other; once = own.once })
+
+-- ---- where the first lane is that nobody holds
+
+pub lane_within : (lanes : List (Option Failing)) → empty_lane lanes ≤ length lanes
+lane_within [] = omega arith
+lane_within (None ∷ lanes) = omega arith
+lane_within (Some held ∷ lanes) = omega (arith, lane_within lanes)
+
+pub taken_there : (held : Failing) (lanes : List (Option Failing)) → set lanes (empty_lane lanes) (Some held) ≡ with_failing held lanes
+taken_there held [] = refl
+taken_there held (None ∷ lanes) = refl
+taken_there held (Some other ∷ lanes) =
+    let is : empty_lane (Some other ∷ lanes) ≡ suc (empty_lane lanes) = omega arith in
+    ap (λ (n : ℕ). set (Some other ∷ lanes) n (Some held)) is ∙ ap (λ (t : List (Option Failing)). Some other ∷ t) (taken_there held lanes)
+
+pub taken_nowhere : (held : Failing) (lanes : List (Option Failing)) → length lanes ≤ empty_lane lanes → with_failing held lanes ≡ lanes
+taken_nowhere held [] h = refl
+taken_nowhere held (None ∷ lanes) h = absurd (omega (arith, h))
+taken_nowhere held (Some other ∷ lanes) h = ap (λ (t : List (Option Failing)). Some other ∷ t) (taken_nowhere held lanes (omega (arith, h)))
+
+not_below : (at len : ℕ) → cond (ltb at len) (Some at) None ≡ None → len ≤ at
+not_below at len e = grind (arith, nat_tests)
+
+pub none_empty : (lanes : List (Option Failing)) → position (λ lane. is_none lane) lanes ≡ None → length lanes ≤ empty_lane lanes
+none_empty lanes e = not_below (empty_lane lanes) (length lanes) e
+
+abbrev pub emptied : Option Failing → Option Failing
+emptied lane = None
+
+pub nobody_left : (lanes : List (Option Failing)) → map emptied lanes ≡ replicate (length lanes) None
+nobody_left [] = refl
+nobody_left (lane ∷ lanes) = ap (λ (t : List (Option Failing)). None ∷ t) (nobody_left lanes)

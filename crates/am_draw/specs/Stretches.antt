@@ -111,4 +111,3 @@ ended_bars until lasts (seen.Left walker mount) = walker_bars (Of walker) until 
 ended_bars until lasts (seen.Reattached fs attach) = system_bars (Of fs) until lasts
 ended_bars until lasts seen.Died = daemon_bars until lasts
 ended_bars until lasts obs = []
-

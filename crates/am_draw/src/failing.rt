@@ -1,7 +1,7 @@
 //! The failures that last, and which lane each has.
 
-ghost use Rattle.std.specs.Prelude.{◌≡◌, ◌≤◌, length, map, replicate, is_none, None, OnOk};
-ghost use Rattle.std.specs.List.{list_any, position_or_len};
+ghost use Rattle.std.specs.Prelude.{◌≡◌, ◌≤◌, length, map, is_none, None, OnOk};
+ghost use Rattle.std.specs.List.{list_any, position};
 ghost use Rattle.am_draw.specs.Failures.{same_failure, lasting_in, is_failing, kept_failing, is_at, has_failing, empty_lane, with_failing, with_empty, newest, fresh};
 
 use am_names::{Seconds, Trigger};
@@ -72,11 +72,17 @@ pub(crate) fn end_failures(lanes: &mut Vec<Option<Failing>>, world: &World, nega
 
 /// Nobody holds a lane any more.
 pub(crate) fn empty_lanes(lanes: &mut Vec<Option<Failing>>)
-    ensures { lanes.new.items ≡ replicate (length lanes.old.items) None }
+    ensures { lanes.new.items ≡ map (λ lane. None) lanes.old.items }
 {
     for lane in lanes.iter_mut() {
         *lane = None;
     }
+}
+
+fn first_empty(lanes: &[Option<Failing>]) -> Option<usize>
+    ensures { result ≡ position (λ lane. is_none lane) lanes.now }
+{
+    lanes.iter().position(|lane| lane.is_none())
 }
 
 /// The first lane that nobody holds, or one behind all of them.
@@ -84,7 +90,7 @@ pub(crate) fn empty_lane(lanes: &[Option<Failing>]) -> usize
     ensures lane { result ≡ empty_lane lanes.now }
     ensures within { result ≤ length lanes.now }
 {
-    match lanes.iter().position(|lane| lane.is_none()) {
+    match first_empty(lanes) {
         Some(lane) => lane,
         None => lanes.len(),
     }
@@ -94,19 +100,26 @@ pub(crate) fn empty_lane(lanes: &[Option<Failing>]) -> usize
 pub(crate) fn take_lane(lanes: &mut Vec<Option<Failing>>, held: Failing)
     ensures { lanes.new.items ≡ with_failing held lanes.old.items }
 {
-    let lane = empty_lane(lanes.as_slice());
-    if lane < lanes.len() {
-        lanes[lane] = Some(held);
+    match first_empty(lanes.as_slice()) {
+        Some(lane) => lanes[lane] = Some(held),
+        None => (),
     }
+}
+
+fn has_empty(lanes: &[Option<Failing>]) -> bool
+    ensures { result ≡ list_any (λ lane. is_none lane) lanes.now }
+{
+    lanes.iter().any(|lane| lane.is_none())
 }
 
 /// Where somebody holds each lane, one is added.
 pub(crate) fn add_lane(lanes: &mut Vec<Option<Failing>>) -> Result<(), AllocError>
     ensures { OnOk result (lanes.new.items ≡ with_empty lanes.old.items) }
 {
-    if !lanes.iter().any(|lane| lane.is_none()) {
-        lanes.push(None)?;
+    if has_empty(lanes.as_slice()) {
+        return Ok(());
     }
+    lanes.push(None)?;
     Ok(())
 }
 
