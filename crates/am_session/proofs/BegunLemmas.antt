@@ -5,8 +5,8 @@ use Rattle.am_script.specs.{IsOpened, NoNext, NotOpened, ScriptFault, ScriptFaul
 use Rattle.am_script.specs.declared.visit.Opened.{Opened}
 use Rattle.am_world.specs.{WorldTable}
 use Rattle.am_world.specs.Capacity.{state_of}
-use Rattle.am_c.specs.declared.session.Session.{Session}
-use Rattle.am_c.specs.Sessions.{HasEvent, IsNew, NotBegun}
+use Rattle.am_session.specs.{Session}
+use Rattle.am_session.specs.Sessions.{HasEvent, IsNew, NotBegun}
 
 -- what stands behind the line `events`
 abbrev behind : Opened → Told

@@ -12,7 +12,7 @@ use Rattle.am_script.specs.Events.{event_read}
 use Rattle.am_script.specs.Fault.{kind_number}
 use Rattle.am_script.specs.Script.{event_or_fault}
 use Rattle.am_script.specs.declared.fault.ScriptFaultKind.TheVariants.{BadEvent, LongLine, NoMemory}
-use Rattle.am_c.specs.Sessions.{event_said}
+use Rattle.am_session.specs.Sessions.{event_said}
 
 -- ---- what a line says
 

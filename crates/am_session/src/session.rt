@@ -1,20 +1,22 @@
 //! A world that is played event by event.
 
-ghost use Rattle.std.specs.Prelude.{◌≡◌, ◌⊎◌, ◌+◌, ◌<◌, ◌≤◌, ◌^◌, ◌++◌, [], ◌∷◌, option_copied, vec_len, None, IfOk, IfErr, OnOk};
+ghost use Rattle.std.specs.Prelude.{◌≡◌, ◌⊎◌, ◌+◌, ◌<◌, ◌≤◌, ◌^◌, ◌++◌, [], ◌∷◌, option_copied, vec_len, None, Some, IfOk, IfErr, OnOk};
+ghost use Rattle.am_daemon.specs.{next_act_of, rows_of};
 ghost use Rattle.am_script.specs.{LineAnswered, NoNext, answer_line, events_from, fault_at, lines_in, lines_of, only_fault, size_in};
 ghost use Rattle.am_script.specs.declared.fault.ScriptFaultKind.TheVariants.{WriteFailed};
 ghost use Rattle.am_views.specs.ObsText.{obs_line, obs_lines};
+ghost use Rattle.am_wait.specs.{wait_of};
 ghost use Rattle.am_world.specs.Capacity.{state_of};
-ghost use Rattle.am_c.specs.Sessions.{HandsOn, HasEvent, IsAnswer, IsNew, IsNotKept, IsShown, IsText, Plays, event_said, no_event, one_event, seen_last};
+ghost use Rattle.am_session.specs.Sessions.{HandsOn, HasEvent, IsAnswer, IsNew, IsNotKept, IsShown, IsText, Plays, Takes, awaited, event_said, no_event, one_event, seen_last};
 
 use am_lines::cut_at_line_feed;
 use am_mountinfo::write_world;
-use am_names::{Errno, NsId};
+use am_names::{Errno, JobId, NsId, Token, WaitRow, WalkerId};
 use am_script::answer_line::{is_refused, push_answer};
 use am_script::visit::{Input, Opened, next_event, open_script};
 use am_script::{ScriptFault, ScriptFaultKind, Summary};
 use am_views::push_observation;
-use am_world::{Answer, Obs, World};
+use am_world::{Act, Answer, Obs, World};
 use std::alloc::{AllocError, Global};
 
 /// The longest head, in bytes: 16 TiB.
@@ -28,7 +30,7 @@ pub struct Session {
 }
 
 /// Begins the world of a head, which ends with the line `events`.
-pub(crate) fn begin(alloc: Global, head: &[u8]) -> Result<Session, ScriptFault>
+pub fn begin(alloc: Global, head: &[u8]) -> Result<Session, ScriptFault>
     ensures { IsNew head.now result }
 {
     let input = copied(alloc, head)?;
@@ -167,8 +169,22 @@ fn answer_line(
     }
 }
 
+/// Plays the event of a line, and keeps its answer. It answers whether the line has an event.
+pub fn take_line(alloc: Global, session: &mut Session, line: &[u8]) -> Result<bool, ScriptFaultKind>
+    ensures { Takes line.now session.old session.new result }
+{
+    match answer_event(alloc, &mut session.world, line) {
+        Ok(None) => Ok(false),
+        Ok(Some(answer)) => {
+            session.answer = Some(answer);
+            Ok(true)
+        }
+        Err(kind) => Err(kind),
+    }
+}
+
 /// No event is answered.
-pub(crate) fn no_event() -> Summary
+pub fn no_event() -> Summary
     ensures { result ≡ no_event }
 {
     Summary {
@@ -210,7 +226,7 @@ fn write_answer(answer: &Answer, written: &mut Vec<u8>) -> Result<Summary, Scrip
 }
 
 /// Plays the event of a line, and writes the line of its answer.
-pub(crate) fn play_line(
+pub fn play_line(
     alloc: Global,
     session: &mut Session,
     line: &[u8],
@@ -231,7 +247,7 @@ pub(crate) fn play_line(
 }
 
 /// Writes the line of what was answered last, if anything was.
-pub(crate) fn tell_answer(session: &Session, written: &mut Vec<u8>) -> Result<Summary, ScriptFault>
+pub fn tell_answer(session: &Session, written: &mut Vec<u8>) -> Result<Summary, ScriptFault>
     requires { written.old.items ≡ [] }
     ensures { IsAnswer session.now.answer written.new.items result }
 {
@@ -242,7 +258,7 @@ pub(crate) fn tell_answer(session: &Session, written: &mut Vec<u8>) -> Result<Su
 }
 
 /// Writes what the last event showed, as a trace has it.
-pub(crate) fn tell_seen(session: &Session, written: &mut Vec<u8>) -> Result<Summary, ScriptFault>
+pub fn tell_seen(session: &Session, written: &mut Vec<u8>) -> Result<Summary, ScriptFault>
     requires { written.old.items ≡ [] }
     ensures { IsText 0 (obs_lines (seen_last session.now)) no_event written.new.items result }
 {
@@ -274,7 +290,7 @@ fn push_line(text: &mut Vec<u8>, obs: &Obs) -> Result<(), AllocError>
 }
 
 /// Writes the world as it is.
-pub(crate) fn tell_world(
+pub fn tell_world(
     alloc: Global,
     session: &Session,
     only: Option<NsId>,
@@ -286,5 +302,30 @@ pub(crate) fn tell_world(
     match write_world(alloc, &session.world, only, written) {
         Ok(()) => Ok(no_event()),
         Err(fault) => Err(fault),
+    }
+}
+
+/// The act that a job makes next; none where there is no such job.
+pub fn next_act(session: &Session, job: JobId) -> Option<&Act>
+    ensures { option_copied result ≡ next_act_of job (rows_of session.now.world.daemon) }
+{
+    session.world.next_act(job)
+}
+
+/// The token on which a walker waits that isn't acknowledged.
+pub fn token_awaited(session: &Session, walker: WalkerId) -> Option<Token>
+    ensures { result ≡ awaited (wait_of session.now.world.kernel.waits.waits walker) }
+{
+    let wait = session.world.wait_of(walker)?;
+    awaited(&wait)
+}
+
+/// The token of a wait, unless that is acknowledged.
+fn awaited(wait: &WaitRow) -> Option<Token>
+    ensures { result ≡ awaited (Some wait.now) }
+{
+    match wait.status {
+        None => Some(wait.token),
+        Some(_) => None,
     }
 }
