@@ -15,8 +15,8 @@ abbrev pub KeepsBytes : Bool → List ℕ → List ℕ → Type 0
 KeepsBytes true kept bytes = is_long bytes ≡ true
 KeepsBytes false kept bytes = kept ≡ bytes
 
-abbrev pub Keeps : Held → List ℕ → Type 0
-Keeps held bytes = KeepsBytes held.is_long held.bytes.items bytes
+abbrev pub IsHeld : Held → List ℕ → Type 0
+IsHeld held bytes = KeepsBytes held.is_long held.bytes.items bytes
 
 -- these bytes were read: whole lines, the replies to which are written, and the beginning of a line
 pub record ReadingStands (reading : Reading) (text : List ℕ) (start now : Option (List ℕ)) : Type 0 where
@@ -26,7 +26,7 @@ pub record ReadingStands (reading : Reading) (text : List ℕ) (start now : Opti
   pub parts : text ≡ whole ++ begun
   pub splits : (rest : List ℕ) → lines_of (whole ++ rest) ≡ front ++ lines_of rest
   pub cut : EndsNoLine begun
-  pub keeps : Keeps reading.held begun
+  pub keeps : IsHeld reading.held begun
   pub number : reading.number ≡ length front
   pub replies : List ℕ
   pub replied : AreReplies fresh front reading.serving replies
@@ -36,14 +36,14 @@ pub record ReadingStands (reading : Reading) (text : List ℕ) (start now : Opti
 
 -- the reply to the line that is held is written, and another line begins
 pub record AnswersHeld (old new : Reading) (held holds : Option (List ℕ)) : Type 0 where
-  pub sends : (line : List ℕ) → Keeps old.held line → Sends old.serving line new.serving held holds
-  pub clear : Keeps new.held []
+  pub sends : (line : List ℕ) → IsHeld old.held line → Sends old.serving line new.serving held holds
+  pub clear : IsHeld new.held []
   pub number : new.number ≡ old.number + 1
 
 -- only a beginning of it is written
 abbrev pub LosesHeld : Reading → Option (List ℕ) → Option (List ℕ) → ScriptFault → Type 0
 LosesHeld old held holds fault =
-    (line : List ℕ) → Keeps old.held line
+    (line : List ℕ) → IsHeld old.held line
     → (new : Serving) × Loses old.serving line new (old.number + 1) held holds fault
 
 -- ---- bytes

@@ -1,7 +1,7 @@
 //! What was read of a line whose end wasn't.
 
-ghost use Rattle.std.specs.Prelude.{◌≡◌, ◌==◌, ◌++◌, [], List, ℕ, length};
-ghost use Rattle.am_serve.specs.Reading.{Keeps};
+ghost use Rattle.std.specs.Prelude.{◌≡◌, ◌≢◌, ◌++◌, [], List, ℕ, false, true};
+ghost use Rattle.am_serve.specs.Reading.{IsHeld};
 
 use arrayvec::ArrayVec;
 
@@ -14,7 +14,7 @@ pub(crate) struct Held {
 
 impl Held {
     pub fn new() -> Held
-        ensures { Keeps result [] }
+        ensures { IsHeld result [] }
     {
         Held {
             bytes: ArrayVec::new(),
@@ -24,7 +24,7 @@ impl Held {
 
     /// Adds bytes to the line.
     pub fn hold(&mut self, bytes: &[u8])
-        ensures { (begun : List ℕ) → Keeps self.old begun → Keeps self.new (begun ++ bytes.now) }
+        ensures { (begun : List ℕ) → IsHeld self.old begun → IsHeld self.new (begun ++ bytes.now) }
     {
         if self.is_long {
             return;
@@ -36,7 +36,7 @@ impl Held {
 
     /// Another line begins.
     pub fn clear(&mut self)
-        ensures { Keeps self.new [] }
+        ensures { IsHeld self.new [] }
     {
         self.bytes.clear();
         self.is_long = false;
@@ -44,7 +44,8 @@ impl Held {
 
     /// Whether the line has no byte so far.
     pub fn is_empty(&self) -> bool
-        ensures { (begun : List ℕ) → Keeps self.now begun → result ≡ (length begun == 0) }
+        ensures empty { result ≡ true → (begun : List ℕ) → IsHeld self.now begun → begun ≡ [] }
+        ensures some { result ≡ false → (begun : List ℕ) → IsHeld self.now begun → begun ≢ [] }
     {
         if self.is_long {
             return false;

@@ -5,6 +5,7 @@ ghost use Rattle.std.specs.Io.KnownBytes.{Appends};
 ghost use Rattle.am_mountinfo.specs.{IsCut};
 ghost use Rattle.am_script.specs.{Puts};
 ghost use Rattle.am_serve.specs.Replies.{IsSaid, IsUnsaid, closed};
+ghost use Rattle.am_serve.specs.declared.telling.Telling.TheVariants.{Asked};
 ghost use Rattle.am_serve.specs.Tellings.{IsLawful, IsTold, IsWorldText, TellsWorld, plain_text};
 
 use crate::complaint::Complaint;
@@ -127,6 +128,26 @@ fn send_world_in<W: Write>(
     }
 }
 
+fn tell_asked<W: Write>(
+    alloc: Global,
+    serving: &Serving,
+    question: Question,
+    number: u64,
+    writer: &mut W,
+) -> Result<(), ScriptFault>
+    requires { serving.now.lines < 2 ^ 62 }
+    ensures ok { OnOk result (IsSaid (IsTold (Asked question) serving.now) (W.contents writer.old)
+        (W.contents writer.new)) }
+    ensures err { IfErr result (IsUnsaid (IsTold (Asked question) serving.now) number
+        (W.contents writer.old) (W.contents writer.new)) }
+{
+    know_lawful(&serving.stand);
+    match question {
+        Question::World { only } => send_world_in(alloc, serving, only, number, writer),
+        _ => send(serving, Telling::Asked { question }, number, writer),
+    }
+}
+
 /// Writes what is told, and the line that ends a reply. Of what isn't written whole the fault has this
 /// number.
 pub(crate) fn tell<W: Write>(
@@ -142,11 +163,8 @@ pub(crate) fn tell<W: Write>(
     ensures err { IfErr result (IsUnsaid (IsTold telling serving.now) number (W.contents writer.old)
         (W.contents writer.new)) }
 {
-    know_lawful(&serving.stand);
     match telling {
-        Telling::Asked {
-            question: Question::World { only },
-        } => send_world_in(alloc, serving, only, number, writer),
+        Telling::Asked { question } => tell_asked(alloc, serving, question, number, writer),
         _ => send(serving, telling, number, writer),
     }
 }

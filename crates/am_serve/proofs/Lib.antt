@@ -1,0 +1,4 @@
+mod HeldLemmas
+mod ReadingLemmas
+mod ReplyLemmas
+mod SendLemmas
