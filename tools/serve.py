@@ -343,8 +343,8 @@ def memory_of(program, head, piece, count):
     return usage.ru_maxrss if child.returncode == 0 else None
 
 
-def takes_no_more_memory(program, head, piece):
-    few, many = memory_of(program, head, piece, 1), memory_of(program, head, piece, 64)
+def takes_no_more_memory(program, head, piece, count):
+    few, many = memory_of(program, head, piece, 1), memory_of(program, head, piece, count)
     return few is not None and many is not None and many < few + 1024
 
 
@@ -437,12 +437,12 @@ def checks(program, room):
     yield "a reader that fails", lambda: reader_fails(program)
     yield "a writer that takes nothing", lambda: writer_fails(program)
     yield "a pipe that is closed", lambda: pipe_is_closed(program)
-    rubbish = (b"rubbish of 64 bytes, which is no event and no question at all.." + b"\n") * (MEBIBYTE // 64)
-    yield "64 MiB of lines that are none", lambda: takes_no_more_memory(program, b"events\n", rubbish)
-    yield "64 MiB without a line feed", lambda: takes_no_more_memory(program, b"events\n", b"x" * MEBIBYTE)
-    yield "64 MiB without a line feed in a head", lambda: takes_no_more_memory(program, b"", b"\0" * MEBIBYTE)
-    yield "64 MiB of questions", lambda: takes_no_more_memory(program, b"events\n", b"?lawful\n" * (MEBIBYTE // 8))
-    yield "64 MiB of events", lambda: takes_no_more_memory(program, b"events\n", b"kind 0 /\n" * (MEBIBYTE // 9))
+    for name, head, piece in (("lines that are none", b"events\n", b"x" * 8000 + b"\n"),
+                              ("lines that are too long", b"", b"?" * MEBIBYTE + b"\n"),
+                              ("one line", b"events\n", b"x" * MEBIBYTE), ("one line of a head", b"", bytes(MEBIBYTE))):
+        yield f"64 MiB: {name}", lambda head=head, piece=piece: takes_no_more_memory(program, head, piece, 64 * MEBIBYTE // len(piece))
+    for line in (b"?lawful", b"?world", b"kind 0 /", b"umount 0 /a"):
+        yield f"8000 times {line}", lambda line=line: takes_no_more_memory(program, b"events\n", (line + b"\n") * 100, 80)
     if "quick" in os.path.basename(program):
         print("the program is built without proof, and takes more memory: it isn't run with little")
     else:

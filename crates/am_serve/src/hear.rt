@@ -4,10 +4,11 @@ ghost use Rattle.std.specs.Prelude.{◌≡◌, ◌+◌, ◌<◌, ◌≤◌, ◌^
 ghost use Rattle.am_script.specs.{is_long};
 ghost use Rattle.am_script.specs.declared.fault.ScriptFaultKind.TheVariants.{NoMemory};
 ghost use Rattle.am_session.specs.{IsBegun, Session};
-ghost use Rattle.am_serve.specs.Hearing.{FindsNoEvent, Hears, HeardInHead, HeardLine, PlaysLine, next_fault, question_told};
-ghost use Rattle.am_serve.specs.Openings.{Follows, IsNoOpening};
+ghost use Rattle.am_serve.specs.Hearing.{FindsNoEvent, Hears, HeardInHead, HeardLine, PlaysLine, fresh, next_fault, question_told};
+ghost use Rattle.am_serve.specs.Openings.{Follows, HeardIfHead, IsNoOpening};
 ghost use Rattle.am_serve.specs.declared.complaint.Complaint.TheVariants.{OfScript};
 ghost use Rattle.am_serve.specs.declared.serving.Stand.TheVariants.{Gathering, Playing};
+ghost use Rattle.am_serve.specs.declared.telling.Telling.TheVariants.{Nothing};
 
 use crate::complaint::Complaint;
 use crate::head::Head;
@@ -177,6 +178,24 @@ fn play(alloc: Global, session: &mut Session, lines: &mut u64, line: &[u8]) -> T
     }
 }
 
+/// Takes a line of a head. A function pays at entry for the size of its locals: a line of events isn't
+/// to pay for a world.
+fn take_in_head(alloc: Global, stand: &mut Stand, lines: &mut u64, line: &[u8]) -> Telling
+    requires { lines.old < 2 ^ 62 }
+    ensures heard { HeardIfHead stand.old lines.old line.now
+        (record { stand = stand.new; lines = lines.new }) result }
+    ensures counted { lines.new ≤ lines.old + 1 }
+{
+    let Stand::Gathering { head } = stand else {
+        return Telling::Nothing;
+    };
+    if !head.ends(line) {
+        return gather(head, lines, line);
+    }
+    let opened = open(alloc, head, line);
+    follow(alloc, opened, stand, lines)
+}
+
 /// Takes a line of a script.
 fn take(alloc: Global, stand: &mut Stand, lines: &mut u64, line: &[u8]) -> Telling
     requires { lines.old < 2 ^ 62 }
@@ -185,15 +204,18 @@ fn take(alloc: Global, stand: &mut Stand, lines: &mut u64, line: &[u8]) -> Telli
     ensures counted { lines.new ≤ lines.old + 1 }
 {
     match stand {
-        Stand::Gathering { head } => {
-            if !head.ends(line) {
-                return gather(head, lines, line);
-            }
-            let opened = open(alloc, head, line);
-            follow(alloc, opened, stand, lines)
-        }
+        Stand::Gathering { .. } => take_in_head(alloc, stand, lines, line),
         Stand::Playing { session } => play(alloc, session, lines, line),
     }
+}
+
+/// Lets a new head begin.
+fn reset(alloc: Global, serving: &mut Serving) -> Telling
+    ensures new { serving.new ≡ fresh }
+    ensures told { result ≡ Nothing }
+{
+    drop(mem::replace(serving, Serving::new(alloc)));
+    Telling::Nothing
 }
 
 /// Takes a line, and answers what is told of it.
@@ -204,10 +226,7 @@ pub(crate) fn hear(alloc: Global, serving: &mut Serving, line: &[u8]) -> Telling
 {
     match request_of(serving.stand.is_within(), line) {
         Request::Long => hear_long(serving),
-        Request::Reset => {
-            drop(mem::replace(serving, Serving::new(alloc)));
-            Telling::Nothing
-        }
+        Request::Reset => reset(alloc, serving),
         Request::Asks { question } => question_told(&serving.stand, serving.lines, question),
         Request::Unknown => next_fault(serving.lines, Complaint::BadQuestion, None),
         Request::Plain => take(alloc, &mut serving.stand, &mut serving.lines, line),
