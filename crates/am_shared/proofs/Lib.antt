@@ -6,3 +6,4 @@ pub mod SumLemmas
 pub mod ChronicleLemmas
 pub mod CallLemmas
 pub mod DeskLemmas
+pub mod BellLemmas

@@ -7,9 +7,11 @@ pub mod Passes
 pub mod Opening
 pub mod Packets
 pub mod Parts
+pub mod Bells
 -- what contracts cite, passed on from one place
+pub use Bells.{bell_of, is_rung_by}
 pub use Matching.{Agrees, AllAgree, AllAway, AtMostOnce, EachAgree, EachRise, Matches, Rise, count_in, times, times_in}
-pub use Notes.{IsFlushed, IsFlushedSince, before, is_released, note, note_at, notes_of}
+pub use Notes.{IsFlushed, IsFlushedSince, before, note, note_at, notes_of}
 pub use Opening.{no_table, opening_of}
 pub use Packets.{AreThePackets, waiting}
 pub use Parts.{HasRoom, sharing_of}

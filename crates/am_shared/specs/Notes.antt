@@ -1,10 +1,10 @@
 -- The notes of what the kernel queued
 -- (autofs.rst, "Communicating with autofs: the event pipe").
-use Rattle.std.specs.Prelude.{◌≡◌, ◌<◌, ◌⊎◌, ℕ, Bool, true, false, List, [], ◌∷◌, length}
+use Rattle.std.specs.Prelude.{◌≡◌, ◌<◌, ◌⊎◌, ℕ, List, [], ◌∷◌, length}
 use Rattle.std.specs.Prelude.{Option, Some, None}
 use Rattle.am_wire.specs.{Packet, fields_of, canonical}
 use Rattle.am_state.specs.{Obs}
-use Rattle.am_state.specs.declared.obs.Obs.TheVariants.{Queued, Released}
+use Rattle.am_state.specs.declared.obs.Obs.TheVariants.{Queued}
 use Rattle.am_pipe.specs.{IsFull, Note, Putter}
 
 -- a packet with its token and its attachment, in its canonical bytes
@@ -34,8 +34,3 @@ IsFlushed put unsent = (length unsent ≡ 0) ⊎ IsFull put
 -- the same, where it has looked since
 abbrev pub IsFlushedSince : ℕ → Putter → List Note → Type 0
 IsFlushedSince looks put unsent = (length unsent ≡ 0) ⊎ ((looks < put.looks) × IsFull put)
-
--- a walker is released
-abbrev pub is_released : Obs → Bool
-is_released (Released walker token status) = true
-is_released _ = false

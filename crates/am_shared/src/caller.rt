@@ -11,6 +11,7 @@ ghost use Rattle.am_shared.specs.Opening.{opening_of};
 ghost use Rattle.am_shared.specs.Passes.{CallsOn, KeepsHistory, view_of};
 ghost use Rattle.am_shared.specs.Sharing.{Sharing, IsSharedFrom, has_to_wait, is_held_up};
 
+use crate::bells::Bells;
 use crate::chronicle::{History, Pass, admit};
 use crate::desk::{Desk, Made};
 use crate::logbook::Logbook;
@@ -22,7 +23,7 @@ use am_names::{FsId, WalkerId};
 use am_pipe::PutEnd;
 use std::alloc::{AllocError, Global};
 use std::marker::Model;
-use std::sync::{Arc, Condvar, Mutex, MutexGuard, Wait};
+use std::sync::{Arc, Mutex, MutexGuard, Wait};
 
 /// An event that a caller made: its position in the history, from 1, the event, and its answer.
 #[derive(Drop)]
@@ -32,12 +33,11 @@ pub struct Receipt {
     pub answer: Answer,
 }
 
-/// The lock, what tells those who wait that somebody was released, and the history that all callers
-/// share.
+/// The lock, what tells walkers that they were released, and the history that all callers share.
 #[derive(Drop)]
 pub struct Lock<L: Opened> {
     pub desk: Mutex<Desk<L>>,
-    released: Condvar,
+    released: Bells,
     pub history: History,
     ghost logbook: { history.shared.table_id ≡ L.logbook },
 }
@@ -113,7 +113,7 @@ pub fn share<L: Opened>(
         alloc,
         Lock {
             desk: Mutex::new(Desk::new(shared, keeping)),
-            released: Condvar::new(),
+            released: Bells::new(alloc)?,
             history,
         },
     )?;
@@ -135,6 +135,7 @@ impl<L: Opened> Lock<L> {
     {
         let desk = self.desk.lock(rt);
         self.released
+            .bell(walker)
             .wait_while(rt, desk, |desk| desk.is_held_up(walker))
     }
 }
@@ -155,7 +156,7 @@ impl<L: Opened> Caller<L> {
     }
 
     /// Makes an event, or takes what was kept ahead for it, and keeps its receipt. Room and copy are
-    /// made before the lock is taken, and those who wait are woken only where one was released.
+    /// made before the lock is taken, and who was released is woken behind it.
     fn make<R: Wait>(
         &mut self,
         rt: &R,
@@ -177,7 +178,7 @@ impl<L: Opened> Caller<L> {
         let Made {
             position,
             answer,
-            releases,
+            released,
         } = self.lock.desk.lock(rt).apply(
             rt,
             alloc,
@@ -186,9 +187,7 @@ impl<L: Opened> Caller<L> {
             &self.lock.history,
             &mut self.pass,
         )?;
-        if releases {
-            self.lock.released.notify_all();
-        }
+        self.lock.released.ring(&released);
         self.receipts.push_reserved(Receipt {
             position,
             event: kept,

@@ -9,8 +9,8 @@ ghost use Rattle.am_shared.specs.Chronicle.{AreIn, caller as caller_with, keeper
 ghost use Rattle.am_shared.specs.Passes.{CallsOn, KeepsHistory, IsOn, view_of};
 ghost use Rattle.am_shared.specs.Sharing.{Sharing, IsSharedFrom, is_held_up};
 
+use crate::bells::{Rung, rung_by};
 use crate::chronicle::{History, Pass, meet, not_all, record};
-use crate::notes::releases;
 use crate::opened::Opened;
 use crate::shared::{Shared, Uncalled};
 use am_machine::{Answer, Event};
@@ -48,12 +48,12 @@ impl<L: Opened> Model for Desk<L> {
         × (s.put.pipe ≡ L.pipe) × (s.put.takers ≡ L.takers) × (s.put.room ≡ L.room)) };
 }
 
-/// An event that was made: its position, its answer, and whether it released somebody.
+/// An event that was made: its position, its answer, and whose bells are to be rung.
 #[derive(Drop)]
 pub struct Made {
     pub position: u64,
     pub answer: Answer,
-    pub releases: bool,
+    pub released: Rung,
 }
 
 impl<L: Opened> Desk<L> {
@@ -122,7 +122,7 @@ impl<L: Opened> Desk<L> {
         Ok(Made {
             position: made.position,
             answer: made.answer,
-            releases: releases(shared.world().trace(), seen),
+            released: rung_by(shared.world().seen_since(seen)),
         })
     }
 

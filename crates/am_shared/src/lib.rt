@@ -2,6 +2,7 @@
 //! is that of a single thread.
 #![tactic(auto)]
 
+mod bells;
 mod caller;
 mod chronicle;
 mod desk;

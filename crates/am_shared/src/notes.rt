@@ -1,9 +1,8 @@
 //! The notes of what the kernel queued, on their way into the pipe.
 
 ghost use Rattle.std.specs.Prelude.{◌≡◌, ◌≤◌, ◌+◌, ◌++◌, length, drop};
-ghost use Rattle.std.specs.List.{list_any};
 ghost use Rattle.std.specs.VecDeque.{deque_len, deque_capacity};
-ghost use Rattle.am_shared.specs.Notes.{note as note_of, note_at, notes_of, IsFlushedSince, is_released};
+ghost use Rattle.am_shared.specs.Notes.{note as note_of, note_at, notes_of, IsFlushedSince};
 
 use am_names::{Attach, Token};
 use am_pipe::{Note, PutEnd};
@@ -79,29 +78,4 @@ pub fn flush<R: Wait>(rt: &R, put: &mut PutEnd, unsent: &mut VecDeque<Note>)
         }
         unsent.pop_front();
     }
-}
-
-/// Whether a walker is released.
-fn is_released(obs: &Obs) -> bool
-    ensures { result ≡ is_released obs.now }
-{
-    matches!(obs, Obs::Released { .. })
-}
-
-/// Whether somebody is released in what was seen.
-fn is_any_released(seen: &[Obs]) -> bool
-    ensures { result ≡ list_any is_released seen.now }
-{
-    seen.iter().any(is_released)
-}
-
-/// Whether somebody is released in a trace, from a place on.
-pub fn releases(trace: &[Obs], from: usize) -> bool
-    ensures { result ≡ list_any is_released (drop from trace.now) }
-{
-    if trace.len() < from {
-        return false;
-    }
-    let (_, seen) = trace.split_at(from);
-    is_any_released(seen)
 }

@@ -12,7 +12,6 @@ use am_pipe::{Note, PutEnd};
 use am_world::World;
 use std::alloc::{AllocError, Global};
 use std::collections::VecDeque;
-use std::marker::Send;
 use std::sync::Wait;
 
 /// What a shared world is made of.
@@ -25,10 +24,6 @@ pub struct Parts {
     /// The notes that found no room in the pipe, in order.
     pub unsent: VecDeque<Note>,
 }
-
-// It crosses threads as what it is made of does. That is proved here once: the search for it at a thread's start goes no
-// deeper.
-unsafe impl Send for Parts {}
 
 /// An event that was made: its position in the history, from 1, and its answer.
 #[derive(Drop)]

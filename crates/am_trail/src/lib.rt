@@ -1,7 +1,6 @@
 //! A list of which a part was handed on, and the program keeps no word of it.
 #![tactic(auto)]
 
-mod handing;
 mod trail;
 
 pub use trail::Trail;

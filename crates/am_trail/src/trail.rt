@@ -1,46 +1,39 @@
 //! What was handed on of a list.
 
-ghost use Rattle.std.specs.Prelude.{◌≡◌, ◌++◌, []};
+ghost use Rattle.std.specs.Prelude.{◌≡◌, ◌++◌, [], List};
+ghost use Rattle.std.specs.Borrow.{ftrue};
 
-use crate::handing::Handing;
-use std::marker::Model;
-use std::snapshot::Snapshot;
+use std::marker::{Model, PhantomData, Send, Sync};
 
-/// What was handed on of a list, in order. A contract sees all of it; the program keeps no word.
+/// What was handed on of a list, in order. A contract sees all of it, as `items`; the program keeps
+/// no word, and no call does anything when it runs.
 #[derive(Drop)]
 pub struct Trail<T> {
-    last: Option<Snapshot<Handing<T>>>,
+    of: PhantomData<T>,
+    pub ghost items: { List T },
 }
 
 impl<T> Model for Trail<T> {
-    ghost use Rattle.std.specs.Prelude.{List};
-    ghost use Rattle.std.specs.Option.{option_map};
-    ghost use Rattle.am_trail.specs.{handed_by};
-
-    ghost Value = { List T };
-
-    ghost view = { λ t. handed_by (option_map (λ s. s.value) t.last) };
+    ghost also_owns = { λ _. ftrue };
 }
+
+// It owns nothing.
+unsafe impl<T> Send for Trail<T> {}
+
+unsafe impl<T> Sync for Trail<T> {}
 
 impl<T> Trail<T> {
     /// Nothing was handed on.
     pub fn new() -> Trail<T>
-        ensures { result ≡ [] }
+        ensures { result.items ≡ [] }
     {
-        Trail { last: None }
+        Trail { of: PhantomData }
     }
 
-    /// These are handed on, behind what was before, and come back as they are.
-    pub fn hand_on(&mut self, list: Vec<T>) -> Vec<T>
-        ensures list { result ≡ list }
-        ensures trail { self.new ≡ self.old ++ list.items }
+    /// These are handed on too, behind what was before.
+    pub fn and(&self, list: &Vec<T>) -> Trail<T>
+        ensures { result.items ≡ self.now.items ++ list.now.items }
     {
-        let handing = Handing {
-            before: self.last.take(),
-            list,
-        };
-        self.last = Some(Snapshot::of(&handing));
-        let Handing { before: _, list } = handing;
-        list
+        Trail { of: PhantomData }
     }
 }

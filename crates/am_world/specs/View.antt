@@ -6,8 +6,8 @@ use Rattle.am_world.specs.declared.world.World.TheInside.{Inside}
 
 -- the world that these fields hold
 abbrev pub view_of : Inside → WorldTable
-view_of w = table_of w.handed w.machine
+view_of w = table_of w.handed.items w.machine
 
 -- it came by a run from its opening, along paths, since a path is names
 pub record IsSound (w : Inside) : Type 0 where
-  pub reached : IsReached (behind w.handed (whole_state w.machine))
+  pub reached : IsReached (behind w.handed.items (whole_state w.machine))

@@ -169,7 +169,8 @@ impl World {
         ensures same { state_of self.new ≡ state_of self.old }
     {
         let seen = mem::replace(&mut self.machine.trace, Vec::new(alloc));
-        self.handed.hand_on(seen)
+        self.handed = self.handed.and(&seen);
+        seen
     }
 
     /// Hands on what `trace` has to nobody, and keeps its room for what is observed next.
@@ -178,8 +179,8 @@ impl World {
         ensures trace { self.new.trace ≡ self.old.trace }
         ensures same { state_of self.new ≡ state_of self.old }
     {
-        let seen = mem::replace(&mut self.machine.trace, Vec::new(alloc));
-        let mut seen = self.handed.hand_on(seen);
+        let mut seen = mem::replace(&mut self.machine.trace, Vec::new(alloc));
+        self.handed = self.handed.and(&seen);
         seen.clear();
         self.machine.trace = seen;
     }

@@ -8,18 +8,18 @@ use Rattle.am_world.proofs.world.World.hand_on.Goals as goal
 
 pub returns-clause-trace : goal.returns-clause-trace
 returns-clause-trace c =
-    let gone = c.self.inside.handed in
+    let gone = c.self.inside.handed.items in
     let none : c.replace-seen.new.dest.items ≡ [] = ap (λ (v : Vec Obs Global). v.items) c.replace-seen.ensures.after ∙ c.new.ensures.items in
-    (λ i. c.hand_on.ensures.trail i ++ none i) ∙ append-nil _
+    (λ i. c.and-self-inside.ensures i ++ none i) ∙ append-nil _
     ∙ ap (λ (v : Vec Obs Global). gone ++ v.items) c.replace-seen.ensures.value ∙ ap (λ (t : WorldTable). t.trace) c.self.view_is
 
 pub returns-clause-same : goal.returns-clause-same
 returns-clause-same c =
-    let gone = c.self.inside.handed in
+    let gone = c.self.inside.handed.items in
     let none : c.replace-seen.new.dest.items ≡ [] = ap (λ (v : Vec Obs Global). v.items) c.replace-seen.ensures.after ∙ c.new.ensures.items in
     let machine = c.self.inside.machine in
-    let all : c.hand_on.new.self ++ c.replace-seen.new.dest.items ≡ gone ++ machine.trace.items =
-    (λ i. c.hand_on.ensures.trail i ++ none i) ∙ append-nil _
+    let all : c.and-self-inside.result.items ++ c.replace-seen.new.dest.items ≡ gone ++ machine.trace.items =
+    (λ i. c.and-self-inside.ensures i ++ none i) ∙ append-nil _
     ∙ ap (λ (v : Vec Obs Global). gone ++ v.items) c.replace-seen.ensures.value in
     state_is _ ∙ ap (λ (t : List Obs). record { kernel = machine.kernel; daemon = rows_of machine.daemon; trace = t }) all
     ∙ sym (state_is (table_of gone machine)) ∙ ap state_of c.self.view_is

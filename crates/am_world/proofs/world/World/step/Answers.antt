@@ -11,7 +11,7 @@ use Rattle.am_world.proofs.world.World.step.Goals as goal
 
 pub invariant_of-self : goal.invariant_of-self
 invariant_of-self c =
-    let gone = c.self.inside.handed in
+    let gone = c.self.inside.handed.items in
     let old = whole_state c.self.inside.machine in
     let new = whole_state c.handle.new.self in
     record {
@@ -21,7 +21,7 @@ invariant_of-self c =
 
 pub returns-clause-step : goal.returns-clause-step
 returns-clause-step c =
-    let gone = c.self.inside.handed in
+    let gone = c.self.inside.handed.items in
     let event = c.args.event.now in
     let answer = told c.handle.result in
     let old = whole_state c.self.inside.machine in

@@ -14,7 +14,7 @@ use Rattle.am_world.proofs.world.World.step_pair.Goals as goal
 pub second_copy-other-requires : goal.second_copy-other-requires
 second_copy-other-requires c =
     let event = c.args.event.now in
-    let gone = c.self.inside.handed in
+    let gone = c.self.inside.handed.items in
     let machine = c.self.inside.machine in
     let same : table.state_of c.args.self.now ≡ behind gone (whole_state machine) = ap table.state_of (sym c.self.view_is) ∙ state_behind gone machine in
     let ahead : IsMadeAhead c.in-Ok.made_ahead (outcome_of (behind gone (whole_state machine)) event).answer =
