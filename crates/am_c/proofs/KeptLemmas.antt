@@ -13,7 +13,7 @@ use denote.Struct.Struct.{within}
 use denote.Struct.Owning.{shape}
 use Rattle.am_c.specs.Kept.{keeps}
 use Rattle.am_c.specs.contracts.kept.Kept as kept
-use Rattle.am_session.specs.contracts.session.Session as session
+use Rattle.am_session.specs.contracts.played.Session as session
 use Rattle.am_session.specs.{Session}
 
 -- what is there, where it isn't nothing

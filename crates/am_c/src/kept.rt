@@ -21,7 +21,7 @@ pub struct Kept {
 impl Model for Kept {
     ghost use Rattle.std.specs.Prelude.{Option};
     ghost use Rattle.am_c.specs.Kept.{keeps};
-    ghost use Rattle.am_session.specs.contracts.session.Session.{the_row as row};
+    ghost use Rattle.am_session.specs.contracts.played.Session.{the_row as row};
     ghost use Rattle.am_session.specs.{Session};
 
     ghost also_owns = { λ k. keeps row k.at k.inside };

@@ -26,7 +26,7 @@ grows true kept now begun bytes e is h = absurd (false≢true (sym e))
 -- a line that is too long has a byte
 pub long_some : (long : Bool) (kept begun : List ℕ) → long ≡ true → KeepsBytes long kept begun → begun ≢ []
 long_some true kept begun e h none = absurd (false≢true (subst (λ (t : List ℕ). is_long t ≡ true) none h))
-long_some false kept begun e h = absurd (false≢true e)
+long_some false kept begun e h none = absurd (false≢true e)
 
 -- else it has those that are kept
 pub short_is : (long : Bool) (kept begun : List ℕ) → long ≡ false → KeepsBytes long kept begun → kept ≡ begun

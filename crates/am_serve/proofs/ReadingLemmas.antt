@@ -12,7 +12,7 @@ use Rattle.am_script.proofs.ReadingLemmas.{consumes_more}
 use Rattle.am_script.proofs.Writes.{appends_more, appends_none}
 use Rattle.am_serve.specs.declared.held.Held.{Held}
 use Rattle.am_serve.specs.declared.reading.Reading.{Reading}
-use Rattle.am_serve.specs.declared.serving.Serving.{Serving}
+use Rattle.am_serve.specs.declared.stands.Serving.{Serving}
 use Rattle.am_serve.specs.Hearing.{fresh}
 use Rattle.am_serve.specs.Reading.{AnswersHeld, EndsServed, IsHeld, LosesAmong, LosesHeld, LosesLast, ReadingStands, TakesBytes}
 use Rattle.am_serve.specs.Replies.{AreReplies}
@@ -129,7 +129,7 @@ bytes_held now kept text bytes start held h whole hold = record {
 }
 
 -- the lines that were read whole are answered
-all_replied : (now : Reading) (text : List ℕ) (start held : Option (List ℕ)) (h : ReadingStands now text start held) → AllReplied h.front start held
+abbrev all_replied : (now : Reading) (text : List ℕ) (start held : Option (List ℕ)) (h : ReadingStands now text start held) → AllReplied h.front start held
 all_replied now text start held h = record { last = now.serving; text = h.replies; replies = h.replied; written = h.written }
 
 -- the reply to a line that ends is lost

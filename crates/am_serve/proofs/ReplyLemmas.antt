@@ -4,11 +4,11 @@ use Rattle.std.specs.Io.KnownBytes.{Appends}
 use Rattle.am_diagnosis.specs.Scripts.{long_slip}
 use Rattle.am_script.specs.{ScriptFault, is_long}
 use Rattle.am_script.specs.declared.fault.ScriptFaultKind.TheVariants.{LongLine}
-use Rattle.am_serve.specs.declared.complaint.Complaint.TheVariants.{OfScript}
+use Rattle.am_serve.specs.declared.complaints.Complaint.TheVariants.{OfScript}
 use Rattle.am_serve.specs.declared.request.Question.{Question}
 use Rattle.am_serve.specs.declared.request.Question.TheVariants as asks
 use Rattle.am_serve.specs.declared.request.Request.{Request}
-use Rattle.am_serve.specs.declared.serving.Serving.{Serving}
+use Rattle.am_serve.specs.declared.stands.Serving.{Serving}
 use Rattle.am_serve.specs.declared.telling.Telling.{Telling}
 use Rattle.am_serve.specs.declared.telling.Telling.TheVariants as tells
 use Rattle.am_serve.specs.Hearing.{Heard, Hears, is_within, next_fault}

@@ -5,14 +5,14 @@ use Rattle.am_diagnosis.specs.declared.expected.Slip.{Slip}
 use Rattle.am_script.specs.{ScriptFault, ScriptFaultKind, fault_at}
 use Rattle.am_script.specs.declared.fault.ScriptFaultKind.TheVariants.{LongLine, NoMemory}
 use Rattle.am_session.specs.{HasSlip, IsBegun, NotBegun, Session, Takes}
-use Rattle.am_serve.specs.declared.complaint.Complaint.{Complaint}
-use Rattle.am_serve.specs.declared.complaint.Complaint.TheVariants.{OfScript, NoWorld, BadQuestion}
+use Rattle.am_serve.specs.declared.complaints.Complaint.{Complaint}
+use Rattle.am_serve.specs.declared.complaints.Complaint.TheVariants.{OfScript, NoWorld, BadQuestion}
 use Rattle.am_serve.specs.declared.request.Question.{Question}
 use Rattle.am_serve.specs.declared.request.Request.{Request}
 use Rattle.am_serve.specs.declared.request.Request.TheVariants.{Long, Reset, Asks, Unknown, Plain}
-use Rattle.am_serve.specs.declared.serving.Serving.{Serving}
-use Rattle.am_serve.specs.declared.serving.Stand.{Stand}
-use Rattle.am_serve.specs.declared.serving.Stand.TheVariants.{Gathering, Playing}
+use Rattle.am_serve.specs.declared.stands.Serving.{Serving}
+use Rattle.am_serve.specs.declared.stands.Stand.{Stand}
+use Rattle.am_serve.specs.declared.stands.Stand.TheVariants.{Gathering, Playing}
 use Rattle.am_serve.specs.declared.telling.Telling.{Telling}
 use Rattle.am_serve.specs.declared.telling.Telling.TheVariants.{Nothing, Answer, Asked, Fault}
 use Rattle.am_serve.specs.Heads.{Gathered, ends_head, nothing_gathered, with_line}

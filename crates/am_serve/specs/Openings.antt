@@ -2,11 +2,11 @@
 use Rattle.std.specs.Prelude.{⊤, ◌≡◌, ℕ, ◌+◌, List, ◌++◌, Option, None, Some, Result, Ok, Err}
 use Rattle.am_script.specs.declared.fault.ScriptFaultKind.TheVariants.{NoMemory}
 use Rattle.am_session.specs.{HasSlip, IsBegun, NotBegun, Session}
-use Rattle.am_serve.specs.declared.complaint.Complaint.TheVariants.{OfScript}
+use Rattle.am_serve.specs.declared.complaints.Complaint.TheVariants.{OfScript}
 use Rattle.am_serve.specs.declared.hear.Bad.{Bad}
-use Rattle.am_serve.specs.declared.serving.Serving.{Serving}
-use Rattle.am_serve.specs.declared.serving.Stand.{Stand}
-use Rattle.am_serve.specs.declared.serving.Stand.TheVariants.{Gathering, Playing}
+use Rattle.am_serve.specs.declared.stands.Serving.{Serving}
+use Rattle.am_serve.specs.declared.stands.Stand.{Stand}
+use Rattle.am_serve.specs.declared.stands.Stand.TheVariants.{Gathering, Playing}
 use Rattle.am_serve.specs.declared.telling.Telling.{Telling}
 use Rattle.am_serve.specs.declared.telling.Telling.TheVariants.{Nothing, Fault}
 use Rattle.am_serve.specs.Heads.{Gathered, ends_head, nothing_gathered}

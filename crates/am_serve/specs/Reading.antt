@@ -5,7 +5,7 @@ use Rattle.std.specs.Io.KnownBytes.{Appends}
 use Rattle.am_script.specs.{EndsNoLine, ScriptFault, is_long, lines_of}
 use Rattle.am_serve.specs.declared.held.Held.{Held}
 use Rattle.am_serve.specs.declared.reading.Reading.{Reading}
-use Rattle.am_serve.specs.declared.serving.Serving.{Serving}
+use Rattle.am_serve.specs.declared.stands.Serving.{Serving}
 use Rattle.am_serve.specs.Hearing.{fresh}
 use Rattle.am_serve.specs.Replies.{AreReplies, Loses, Sends}
 use Rattle.am_serve.specs.Served.{AllReplied, LosesReply, sent_lines}

@@ -3,7 +3,7 @@ use Rattle.std.specs.Prelude.{◌≡◌, ℕ, List, [], ◌∷◌, ◌++◌, cod
 use Rattle.std.specs.Io.KnownBytes.{Appends}
 use Rattle.am_mountinfo.specs.{IsCut}
 use Rattle.am_script.specs.{ScriptFault}
-use Rattle.am_serve.specs.declared.serving.Serving.{Serving}
+use Rattle.am_serve.specs.declared.stands.Serving.{Serving}
 use Rattle.am_serve.specs.declared.telling.Telling.{Telling}
 use Rattle.am_serve.specs.Hearing.{Hears}
 use Rattle.am_serve.specs.Tellings.{IsTold}

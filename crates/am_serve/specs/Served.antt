@@ -5,7 +5,7 @@ use Rattle.std.specs.Io.KnownBytes.{Appends, Consumes, IsAtEnd}
 use Rattle.am_mountinfo.specs.{IsCut}
 use Rattle.am_script.specs.{ScriptFault, fault_at, lines_of}
 use Rattle.am_script.specs.declared.fault.ScriptFaultKind.TheVariants.{ReadFailed}
-use Rattle.am_serve.specs.declared.serving.Serving.{Serving}
+use Rattle.am_serve.specs.declared.stands.Serving.{Serving}
 use Rattle.am_serve.specs.Hearing.{fresh}
 use Rattle.am_serve.specs.Replies.{AreReplies, IsReply}
 

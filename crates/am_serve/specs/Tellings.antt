@@ -16,9 +16,9 @@ use Rattle.am_wait.specs.{wait_of}
 use Rattle.am_world.specs.Capacity.{state_of}
 use Rattle.am_serve.specs.declared.request.Question.{Question}
 use Rattle.am_serve.specs.declared.request.Question.TheVariants as asks
-use Rattle.am_serve.specs.declared.serving.Serving.{Serving}
-use Rattle.am_serve.specs.declared.serving.Stand.{Stand}
-use Rattle.am_serve.specs.declared.serving.Stand.TheVariants.{Gathering, Playing}
+use Rattle.am_serve.specs.declared.stands.Serving.{Serving}
+use Rattle.am_serve.specs.declared.stands.Stand.{Stand}
+use Rattle.am_serve.specs.declared.stands.Stand.TheVariants.{Gathering, Playing}
 use Rattle.am_serve.specs.declared.telling.Telling.{Telling}
 use Rattle.am_serve.specs.declared.telling.Telling.TheVariants as tells
 use Rattle.am_serve.specs.Words.{complaint_word}

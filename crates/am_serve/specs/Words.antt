@@ -6,8 +6,8 @@ use Rattle.am_master.specs.{MasterFaultKind}
 use Rattle.am_master.specs.declared.fault.MasterFaultKind.TheVariants as of_master
 use Rattle.am_script.specs.{ScriptFaultKind}
 use Rattle.am_script.specs.declared.fault.ScriptFaultKind.TheVariants as of_script
-use Rattle.am_serve.specs.declared.complaint.Complaint.{Complaint}
-use Rattle.am_serve.specs.declared.complaint.Complaint.TheVariants.{OfScript, NoWorld, BadQuestion}
+use Rattle.am_serve.specs.declared.complaints.Complaint.{Complaint}
+use Rattle.am_serve.specs.declared.complaints.Complaint.TheVariants.{OfScript, NoWorld, BadQuestion}
 
 -- the word for a fault of a map section
 abbrev pub map_word : MapFaultKind → List ℕ

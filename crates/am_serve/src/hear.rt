@@ -6,14 +6,14 @@ ghost use Rattle.am_script.specs.declared.fault.ScriptFaultKind.TheVariants.{NoM
 ghost use Rattle.am_session.specs.{IsBegun, Session};
 ghost use Rattle.am_serve.specs.Hearing.{FindsNoEvent, Hears, HeardInHead, HeardLine, PlaysLine, fresh, next_fault, question_told};
 ghost use Rattle.am_serve.specs.Openings.{Follows, HeardIfHead, IsNoOpening};
-ghost use Rattle.am_serve.specs.declared.complaint.Complaint.TheVariants.{OfScript};
-ghost use Rattle.am_serve.specs.declared.serving.Stand.TheVariants.{Gathering, Playing};
+ghost use Rattle.am_serve.specs.declared.complaints.Complaint.TheVariants.{OfScript};
+ghost use Rattle.am_serve.specs.declared.stands.Stand.TheVariants.{Gathering, Playing};
 ghost use Rattle.am_serve.specs.declared.telling.Telling.TheVariants.{Nothing};
 
-use crate::complaint::Complaint;
+use crate::complaints::Complaint;
 use crate::head::Head;
 use crate::request::{Question, Request, request_of};
-use crate::serving::{Serving, Stand};
+use crate::stands::{Serving, Stand};
 use crate::telling::Telling;
 use am_diagnosis::{Expected, Slip};
 use am_script::{ScriptFault, ScriptFaultKind};

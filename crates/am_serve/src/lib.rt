@@ -1,21 +1,21 @@
 //! A session over a reader and a writer: each line is answered before the next is awaited.
 #![tactic(auto)]
 
-pub mod complaint;
+mod answering;
+pub mod complaints;
 pub mod head;
 mod hear;
 mod held;
 mod number;
 mod reading;
-mod reply;
 pub mod request;
-pub mod serving;
+pub mod stands;
 mod tell;
 pub mod telling;
 mod text;
 mod word;
 
-pub use complaint::{Complaint, kind_word};
+pub use answering::reply;
+pub use complaints::{Complaint, kind_word};
 pub use reading::serve;
-pub use reply::reply;
-pub use serving::{Serving, Stand};
+pub use stands::{Serving, Stand};

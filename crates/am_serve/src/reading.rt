@@ -8,9 +8,9 @@ ghost use Rattle.am_serve.specs.Replies.{Loses, Sends};
 ghost use Rattle.am_serve.specs.Reading.{AnswersHeld, EndsServed, IsHeld, LosesAmong, LosesHeld, LosesLast, ReadingStands, TakesBytes};
 ghost use Rattle.am_serve.specs.Served.{ServesInput, StopsServing};
 
+use crate::answering::{reply, reply_long};
 use crate::held::Held;
-use crate::reply::{reply, reply_long};
-use crate::serving::Serving;
+use crate::stands::Serving;
 use am_lines::line_feed_place;
 use am_script::{ScriptFault, ScriptFaultKind};
 use std::alloc::Global;

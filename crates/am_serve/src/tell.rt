@@ -8,9 +8,9 @@ ghost use Rattle.am_serve.specs.Replies.{IsSaid, IsUnsaid, closed};
 ghost use Rattle.am_serve.specs.declared.telling.Telling.TheVariants.{Asked};
 ghost use Rattle.am_serve.specs.Tellings.{IsLawful, IsTold, IsWorldText, TellsWorld, plain_text};
 
-use crate::complaint::Complaint;
+use crate::complaints::Complaint;
 use crate::request::Question;
-use crate::serving::{Serving, Stand};
+use crate::stands::{Serving, Stand};
 use crate::telling::Telling;
 use crate::text::put_told;
 use am_mountinfo::write_world;

@@ -1,6 +1,6 @@
 //! What is told of a line.
 
-use crate::complaint::Complaint;
+use crate::complaints::Complaint;
 use crate::request::Question;
 use am_diagnosis::Slip;
 

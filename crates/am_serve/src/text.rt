@@ -7,9 +7,9 @@ ghost use Rattle.am_views.specs.ObsText.{obs_line, obs_lines};
 ghost use Rattle.am_serve.specs.Tellings.{answer_in, answer_text, asked_text, fault_text, next_text, plain_text, question_text, waiting_text};
 ghost use Rattle.am_serve.specs.Words.{complaint_word};
 
-use crate::complaint::Complaint;
+use crate::complaints::Complaint;
 use crate::request::Question;
-use crate::serving::{Serving, Stand};
+use crate::stands::{Serving, Stand};
 use crate::telling::Telling;
 use am_diagnosis::{Expected, Slip};
 use am_names::Token;

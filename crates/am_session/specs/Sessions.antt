@@ -10,7 +10,7 @@ use Rattle.am_script.specs.declared.fault.ScriptFaultKind.TheVariants.{BadEvent,
 use Rattle.am_views.specs.{obs_lines}
 use Rattle.am_state.specs.{Obs}
 use Rattle.am_world.specs.Capacity.{WorldTable, state_of}
-use Rattle.am_session.specs.declared.session.Session.{Session}
+use Rattle.am_session.specs.declared.played.Session.{Session}
 
 -- ---- what a call writes
 

@@ -5,7 +5,7 @@ ghost use Rattle.am_script.specs.{is_long};
 ghost use Rattle.am_serve.specs.Replies.{Loses, Sends};
 
 use crate::hear::{hear, hear_long};
-use crate::serving::Serving;
+use crate::stands::Serving;
 use crate::tell::tell;
 use am_script::ScriptFault;
 use std::alloc::Global;

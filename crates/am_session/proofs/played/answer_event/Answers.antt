@@ -1,6 +1,6 @@
 use Rattle.am_world.specs.Capacity.{state_of}
 use Rattle.am_session.proofs.AskedLemmas.{asked_many}
-use Rattle.am_session.proofs.session.answer_event.Goals as goal
+use Rattle.am_session.proofs.played.answer_event.Goals as goal
 
 pub returns-in-Some-clause-answered : goal.returns-in-Some-clause-answered
 returns-in-Some-clause-answered c =

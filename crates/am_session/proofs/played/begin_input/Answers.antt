@@ -1,5 +1,5 @@
 use Rattle.am_session.proofs.BegunLemmas.{begun_as, no_head_as}
-use Rattle.am_session.proofs.session.begin_input.Goals as goal
+use Rattle.am_session.proofs.played.begin_input.Goals as goal
 
 pub returns-in-Ok-Some : goal.returns-in-Ok-Some
 returns-in-Ok-Some c =
