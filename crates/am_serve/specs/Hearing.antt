@@ -58,11 +58,14 @@ pub record HasBadHead (head : Gathered) (line : List ℕ) (new : Serving) (told 
   pub anew : new ≡ fresh
   pub tells : told ≡ Fault fault.line (OfScript fault.kind) slip
 
+-- there is no memory for the line that ends the head: another head begins
+abbrev pub LosesHead : ℕ → Serving → Telling → Type 0
+LosesHead lines new told = (new ≡ fresh) × (told ≡ next_fault lines (OfScript NoMemory) None)
+
 -- the line ends the head, or doesn't
 abbrev pub HeardInHead : Bool → Gathered → ℕ → List ℕ → Serving → Telling → Type 0
 HeardInHead true head lines line new told =
-    BeginsWorld head lines line new told
-    ⊎ (HasBadHead head line new told ⊎ FindsNoRoom (record { stand = Gathering head; lines = lines }) new told)
+    BeginsWorld head lines line new told ⊎ (HasBadHead head line new told ⊎ LosesHead lines new told)
 HeardInHead false head lines line new told =
     Gathers head lines line new told ⊎ FindsNoRoom (record { stand = Gathering head; lines = lines }) new told
 

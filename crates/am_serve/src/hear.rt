@@ -1,7 +1,7 @@
 //! What a line makes of a session.
 
 ghost use Rattle.std.specs.Prelude.{◌≡◌, ◌+◌, ◌<◌, ◌≤◌, ◌^◌, ◌++◌, List, ℕ, false, true, None, IfErr, IfOk};
-ghost use Rattle.am_script.specs.{is_long};
+ghost use Rattle.am_script.specs.{fault_at, is_long};
 ghost use Rattle.am_script.specs.declared.fault.ScriptFaultKind.TheVariants.{NoMemory};
 ghost use Rattle.am_session.specs.{IsBegun, Session};
 ghost use Rattle.am_serve.specs.Hearing.{FindsNoEvent, Hears, HeardInHead, HeardLine, PlaysLine, fresh, next_fault, question_told};
@@ -80,20 +80,34 @@ pub(crate) struct Bad {
     pub slip: Option<Slip>,
 }
 
-/// Begins the world of a head, which ends with this line, or tells what is wrong with it; nothing where
-/// there is no memory for the line.
-fn open(alloc: Global, head: &mut Head, line: &[u8]) -> Result<Session, Option<Bad>>
+/// There is no memory for the last line of a head.
+fn lost(lines: u64) -> Bad
+    requires { lines < 2 ^ 62 }
+    ensures { result ≡ record { fault = fault_at (lines + 1) NoMemory; slip = None } }
+{
+    Bad {
+        fault: ScriptFault {
+            line: lines + 1,
+            kind: ScriptFaultKind::NoMemory,
+        },
+        slip: None,
+    }
+}
+
+/// Begins the world of a head of so many lines, which ends with this one, or tells what is wrong.
+fn open_head(alloc: Global, head: &mut Head, lines: u64, line: &[u8]) -> Result<Session, Bad>
+    requires { lines < 2 ^ 62 }
     ensures ok { IfOk result (IsBegun (head.old.text ++ line.now)) }
-    ensures err { IfErr result (IsNoOpening head.old line.now head.new) }
+    ensures err { IfErr result (IsNoOpening head.old lines line.now) }
 {
     if let Err(_) = head.push_last(line) {
-        return Err(None);
+        return Err(lost(lines));
     }
     match begin(alloc, head.text()) {
         Ok(session) => Ok(session),
         Err(fault) => {
             let slip = slip_of(alloc, head.text(), fault);
-            Err(Some(Bad { fault, slip }))
+            Err(Bad { fault, slip })
         }
     }
 }
@@ -101,12 +115,12 @@ fn open(alloc: Global, head: &mut Head, line: &[u8]) -> Result<Session, Option<B
 /// What comes of that for a session of which so many lines were taken.
 fn follow(
     alloc: Global,
-    opened: Result<Session, Option<Bad>>,
+    opened: Result<Session, Bad>,
     stand: &mut Stand,
     lines: &mut u64,
 ) -> Telling
     requires { lines.old < 2 ^ 62 }
-    ensures follows { Follows opened stand.old lines.old stand.new lines.new result }
+    ensures follows { Follows opened lines.old stand.new lines.new result }
     ensures counted { lines.new ≤ lines.old + 1 }
 {
     match opened {
@@ -116,7 +130,7 @@ fn follow(
             *lines += 1;
             Telling::Nothing
         }
-        Err(Some(bad)) => {
+        Err(bad) => {
             let head = Head::new(alloc);
             drop(mem::replace(stand, Stand::Gathering { head }));
             *lines = 0;
@@ -128,7 +142,6 @@ fn follow(
                 slip: bad.slip,
             }
         }
-        Err(None) => no_room(*lines),
     }
 }
 
@@ -192,7 +205,7 @@ fn take_in_head(alloc: Global, stand: &mut Stand, lines: &mut u64, line: &[u8]) 
     if !head.ends(line) {
         return gather(head, lines, line);
     }
-    let opened = open(alloc, head, line);
+    let opened = open_head(alloc, head, *lines, line);
     follow(alloc, opened, stand, lines)
 }
 
