@@ -1,6 +1,7 @@
 -- What is written, or a beginning of it.
 use Rattle.std.proofs.Common.{◌≡◌, ◌≢◌, ◌⊎◌, ◌+◌, ℕ, List, [], ◌∷◌, ◌++◌, length, take, Option, None, Result, Ok, Err, OnOk, IfErr, IsOk, refl, sym, ap, ◌∙◌, subst, ⊎_elim, inl, inr, append-nil, arith, length-append, codes}
 use Rattle.std.proofs.Math.Seq.{take-append-add}
+use Rattle.std.proofs.lemmas.Bool.{false≢true}
 use Rattle.std.proofs.lemmas.List.{take-append-le}
 use Rattle.std.specs.Io.KnownBytes.{Appends}
 use Rattle.am_script.specs.{ScriptFault, ScriptFaultKind, Output, Summary, fault_at, Owed, owed_by, IsLost, Stands, Settles, Puts, IsWhole, IsShort, Closes}
@@ -52,14 +53,12 @@ text_ends fresh begun done line text summary old now held new r e f g settles is
 pub ends_sent : {U : Type 0} (line : ℕ) (text : List ℕ) (old new : Option (List ℕ)) (r : Result Summary ScriptFault) (e : Result U ScriptFault) → TextEnds line text old new r → OnOk e (IsOk r) → OnOk e (Appends old new text)
 ends_sent line text old new (Ok told) (Ok done) h is = h
 ends_sent line text old new (Ok told) (Err fault) h is = tt
-ends_sent line text old new (Err fault) (Ok done) h is = absurd is
+ends_sent line text old new (Err fault) (Ok done) h is = absurd (false≢true is)
 ends_sent line text old new (Err fault) (Err same) h is = tt
 
 pub ends_unsent : {U : Type 0} (line : ℕ) (text : List ℕ) (old new : Option (List ℕ)) (r : Result Summary ScriptFault) (e : Result U ScriptFault) → TextEnds line text old new r → IfErr e (λ fault. r ≡ Err fault) → IfErr e (IsCut line text old new)
-ends_unsent line text old new (Ok told) (Ok done) h is = tt
-ends_unsent line text old new (Ok told) (Err fault) h is = absurd (let other : Ok told ≡ Err fault = is in cc)
-ends_unsent line text old new (Err fault) (Ok done) h is = tt
-ends_unsent line text old new (Err fault) (Err same) h is = subst (λ (f : ScriptFault). IsCut line text old new f) (let other : Err {T = Summary} fault ≡ Err same = is in cc) h
+ends_unsent line text old new r (Ok done) h is = tt
+ends_unsent line text old new r (Err fault) h is = subst (λ (t : Result Summary ScriptFault). TextEnds line text old new t) is h
 
 -- ---- a world, and the line that ends its reply
 
