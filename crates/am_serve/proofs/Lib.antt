@@ -1,4 +1,3 @@
-mod HeldLemmas
 mod ReadingLemmas
 mod ReplyLemmas
 mod SendLemmas
