@@ -1,18 +1,13 @@
 -- The last that was seen of a walker tells how it stands.
-use Rattle.std.proofs.Common.{◌≡◌, ◌∙◌, ℕ, Bool, true, false, cond, List, [], ◌∷◌, ◌++◌, map, Option, Some, None, refl}
-use Rattle.std.proofs.Common.{sym, ap, subst}
-use Rattle.std.specs.Prelude.{◌==◌, ◌&&◌, ◌||◌, is_none, is_some, if◌then◌else◌}
+use Rattle.std.proofs.Common.{◌≡◌, ℕ, Bool, true, false, Option, Some, None, refl}
+use Rattle.std.specs.Prelude.{◌==◌, ◌&&◌, is_none, is_some, if◌then◌else◌}
 use Rattle.std.specs.Option.{option_map}
-use Rattle.std.specs.List.{list_any}
 use Rattle.am_names.specs.{Status, WaitRow}
 use Rattle.am_names.specs.declared.fail_no.FailNo.TheVariants.{ENOENT}
 use Rattle.am_names.specs.declared.trigger.Status.TheVariants.{Fail}
-use Rattle.am_state.specs.{Obs}
-use Rattle.am_state.specs.declared.obs.Obs.TheVariants as seen
-use Rattle.am_wait.specs.{released_row, failed_row, is_waiting_on, still_waits, wait_of}
-use Rattle.am_wait.proofs.FindLemmas.{find_map}
-use Rattle.am_draw.specs.Standings.{Standing, stands_by}
-use Rattle.am_draw.specs.Standings.Standing.{Rests, Waits, IsInside}
+use Rattle.am_wait.specs.{released_row, failed_row, is_waiting_on}
+use Rattle.am_draw.specs.Standings.{stands_by}
+use Rattle.am_draw.specs.Standings.Standing.{Rests}
 
 -- ---- one acknowledgement
 

@@ -1,10 +1,10 @@
 -- What walkers do is seen of how they stand.
-use Rattle.std.proofs.Common.{◌≡◌, ◌∙◌, ℕ, ◌+◌, Bool, true, false, cond, List, [], ◌∷◌, ◌++◌, map, Option, Some, None}
+use Rattle.std.proofs.Common.{◌≡◌, ◌∙◌, ℕ, ◌+◌, Bool, true, false, List, [], ◌∷◌, ◌++◌, map, Option, Some, None}
 use Rattle.std.proofs.Common.{refl, sym, ap, subst}
 use Rattle.std.specs.Prelude.{◌==◌, ◌&&◌, ◌||◌, is_none, is_some, if◌then◌else◌}
 use Rattle.std.specs.Option.{option_map}
 use Rattle.std.specs.List.{list_any}
-use Rattle.am_names.specs.{is_among, OpenToken, Status, TokenKind, WaitRow}
+use Rattle.am_names.specs.{OpenToken, Status, TokenKind, WaitRow}
 use Rattle.am_names.specs.declared.fail_no.FailNo.TheVariants.{ENOENT}
 use Rattle.am_names.specs.declared.row.TokenKind.TheVariants.{Missing, Expire}
 use Rattle.am_names.specs.declared.trigger.Trigger.{Trigger}
@@ -12,13 +12,13 @@ use Rattle.am_names.specs.declared.trigger.Status.TheVariants.{Fail}
 use Rattle.am_names.proofs.Basics.{differ_the_other_way, equal_by_test, equal_to_itself}
 use Rattle.am_state.specs.{Obs}
 use Rattle.am_state.specs.declared.obs.Obs.TheVariants as seen
-use Rattle.am_wait.specs.{IsSound, WaitRows, answered, failed_row, fs_released, is_waiting_on, joined_on, opened}
-use Rattle.am_wait.specs.{released_row, still_waits, token_of, tokens_of, wait_of, waiters_of, waiting_on, with_wait}
+use Rattle.am_wait.specs.{IsSound, answered, failed_row, fs_released, is_waiting_on, joined_on}
+use Rattle.am_wait.specs.{released_row, token_of, tokens_of, wait_of, waiters_of, waiting_on, with_wait}
 use Rattle.am_wait.specs.{without_wait}
 use Rattle.am_wait.proofs.FindLemmas.{find_map, wait_put, wait_taken}
 use Rattle.am_expire.specs.{Use, entered, left, mount_of_walker}
 use Rattle.am_expire.proofs.UseLemmas.{enters, leaves}
-use Rattle.am_kernel.specs.{KernelState, answering, catatonic_observations, made_catatonic, passes}
+use Rattle.am_kernel.specs.{KernelState, answering, catatonic_observations, passes}
 use Rattle.am_kernel.specs.{wait_collected_from}
 use Rattle.am_daemon.specs.{JobPlan}
 use Rattle.am_machine.specs.{FitsTrace, has, rows_of}

@@ -11,13 +11,13 @@ use Rattle.am_wire.specs.declared.packet_type.PacketType.{PacketType}
 use Rattle.am_wire.specs.declared.packet_type.PacketType.TheVariants.{MissingIndirect, ExpireIndirect, MissingDirect, ExpireDirect}
 use Rattle.am_state.specs.{Obs}
 use Rattle.am_state.specs.declared.obs.Obs.TheVariants as seen
-use Rattle.am_laws.specs.{Lawful, closes, first_of, fs_of_token, is_open, packet_of, queues, since}
+use Rattle.am_laws.specs.{Lawful, closes, first_of, is_open, packet_of, queues, since}
 use Rattle.am_laws.specs.Counts.{dev_of}
 use Rattle.am_lanes.specs.{Look, is_in}
 use Rattle.am_lanes.specs.Changes.{unless_ended}
 use Rattle.am_lanes.specs.declared.holder.Ending.TheVariants.{In, Of}
 use Rattle.am_draw.specs.Lasting.{token_look}
-use Rattle.am_draw.specs.Worlds.{bar_seen, then_bar_of}
+use Rattle.am_draw.specs.Worlds.{bar_seen}
 
 either_way : (a b : ℕ) → (a == b) ≡ (b == a)
 either_way a b = by (a == b) refl

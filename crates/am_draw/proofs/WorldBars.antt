@@ -1,6 +1,6 @@
 -- The bars of a picture are those of the world.
-use Rattle.std.proofs.Common.{◌≡◌, ◌∙◌, ℕ, ◌+◌, Bool, true, false, List, [], ◌∷◌, ◌++◌, Option, Some, None, refl, sym, ap, subst}
-use Rattle.std.proofs.Common.{append_assoc, inl, inr}
+use Rattle.std.proofs.Common.{◌≡◌, ◌∙◌, ℕ, ◌+◌, Bool, true, false, List, [], ◌∷◌, ◌++◌, Option, Some, None, refl, sym, ap}
+use Rattle.std.proofs.Common.{inl, inr}
 use Rattle.std.specs.Prelude.{◌==◌, if◌then◌else◌}
 use Rattle.std.specs.Option.{option_map}
 use Rattle.std.specs.List.{flat_map}
@@ -21,7 +21,7 @@ use Rattle.am_machine.proofs.Consistent.{runs_lawful}
 use Rattle.am_machine.proofs.Runs.{run_more}
 use Rattle.am_machine.proofs.Told.Runs.{runs_fit}
 use Rattle.am_lanes.specs.{Change, HaveBars, Look, bar_behind}
-use Rattle.am_lanes.specs.Changes.{shown}
+use Rattle.am_lanes.specs.Changes.{shown, then_bar}
 use Rattle.am_lanes.specs.declared.holder.Holder.{Holder}
 use Rattle.am_draw.specs.{Viewed, ViewedRun}
 use Rattle.am_draw.specs.Changes.{actor_changes, changes_of_tokens, changes_of_walkers, token_changes, walker_changes}
@@ -37,7 +37,7 @@ use Rattle.am_draw.proofs.TokenBars.{bar_is_told, once_of, packet_look}
 
 bars_both : (number : ℕ) (bar : Option Look) (xs ys : List Change) → bar_behind number bar (xs ++ ys) ≡ bar_behind number (bar_behind number bar xs) ys
 bars_both number bar [] ys = refl
-bars_both number bar (x ∷ xs) ys = bars_both number _ xs ys
+bars_both number bar (x ∷ xs) ys = bars_both number (then_bar number bar x) xs ys
 
 -- ---- walkers
 
@@ -82,9 +82,9 @@ token_seen : (number token : ℕ) (bar : Option Look) (all : List Obs) → bar_b
 token_seen number token bar [] = refl
 token_seen number token bar (seen.Queued other attach packet ∷ all) =
     ap (λ (o : Option Look). bar_behind token (if other == token then o else bar) (flat_map (token_changes number) all)) (shown_is packet.kind packet.dev)
-    ∙ token_seen number token _ all
-token_seen number token bar (seen.Answered other status ∷ all) = token_seen number token _ all
-token_seen number token bar (seen.Catatonic fs ∷ all) = token_seen number token _ all
+    ∙ token_seen number token (then_bar_of token bar (seen.Queued other attach packet)) all
+token_seen number token bar (seen.Answered other status ∷ all) = token_seen number token (then_bar_of token bar (seen.Answered other status)) all
+token_seen number token bar (seen.Catatonic fs ∷ all) = token_seen number token (then_bar_of token bar (seen.Catatonic fs)) all
 token_seen number token bar (_ ∷ all) = token_seen number token bar all
 
 seen_both : (token : ℕ) (bar : Option Look) (xs ys : List Obs) → bar_seen token bar (xs ++ ys) ≡ bar_seen token (bar_seen token bar xs) ys

@@ -1,7 +1,7 @@
 -- How bars stand in the world. Own choice (docs/FORMATS.md, "Pictures").
 use Rattle.std.specs.Prelude.{◌≡◌, ℕ, ◌==◌, false, List, [], ◌∷◌, ◌++◌, length, Option, None, Some, if◌then◌else◌}
 use Rattle.std.specs.Option.{option_map}
-use Rattle.am_names.specs.{OpenToken, TokenKind}
+use Rattle.am_names.specs.{TokenKind}
 use Rattle.am_names.specs.declared.row.TokenKind.TheVariants as kinds
 use Rattle.am_state.specs.{Obs}
 use Rattle.am_state.specs.declared.obs.Obs.TheVariants as seen
@@ -18,15 +18,15 @@ use Rattle.am_draw.specs.Drawn.{Viewed, ViewedRun, asked_in, first_lasts, lasts_
 use Rattle.am_draw.specs.Lasting.{Lasts, token_look}
 use Rattle.am_draw.specs.Parts.{is_past}
 use Rattle.am_draw.specs.Standings.{AreApart, Standing, stands}
-use Rattle.am_draw.specs.Standings.Standing as standings
+use Rattle.am_draw.specs.Standings.Standing.{IsInside, Rests, Waits}
 
 -- ---- bars in a world
 
 -- the bar of a walker that stands so
 abbrev pub standing_bar : Standing → Option Look
-standing_bar standings.Rests = None
-standing_bar standings.Waits = Some looks.Waits
-standing_bar standings.IsInside = Some looks.Inside
+standing_bar Rests = None
+standing_bar Waits = Some looks.Waits
+standing_bar IsInside = Some looks.Inside
 
 -- the bar of a walker: one where it waits on a token that isn't acknowledged, another where it is inside
 -- a mount
