@@ -9,5 +9,10 @@ pub mod NothingLemmas
 pub mod PieceLemmas
 pub mod RowLemmas
 pub mod RunLemmas
+pub mod StandingEvents
+pub mod StandingLemmas
+pub mod StandingWalks
 pub mod TitleLemmas
+pub mod TokenBars
 pub mod TreeLemmas
+pub mod WorldBars

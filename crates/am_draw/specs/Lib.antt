@@ -8,10 +8,12 @@ pub mod Marks
 pub mod Parts
 pub mod Rows
 pub mod Sides
+pub mod Standings
 pub mod Stretches
 pub mod Titles
 pub mod Trees
 pub mod Words
+pub mod Worlds
 -- what contracts cite, passed on from one place
 pub use Rattle.am_lanes.specs.{Ending, Holder, IsNextEnding, ended_lane, ends_lane, is_free, is_of, lane_for, may_take, placed, sighted, with_lane}
 pub use Drawn.{AllDrawn, DrawEnds, DrawStops, DrawnFrom, DrawnToLoss, DrawsAgain, DrawsFrom, DrawsInput, Finishes, IsAtEvent, IsCounted, IsDrawn, IsSizeOf, IsSizeOfScript, NotCounted, NothingDrawn, NothingEnds, NothingStops, Piece, StopsDrawing, Viewed, ViewedRun, Views, added_behind, answers_in, asked_in, bytes_in, counted_to, drawn_for, event_piece, event_pieces, first_lasts, head_in, is_out_of_memory, lanes_for, lasts_behind, next_lasts, picture, pieces_of, size_of, tail_behind, tail_for, tail_pieces}

@@ -17,4 +17,4 @@ mod went;
 mod words;
 
 pub use draw::draw_script;
-pub use law::nobody_loses_a_bar;
+pub use law::{bars_tell_the_world, nobody_loses_a_bar};
