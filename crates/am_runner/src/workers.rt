@@ -10,7 +10,7 @@ ghost use Rattle.am_runner.specs.Tasks.{IsNextIn, IsSeen};
 
 use crate::calls::{TRIES, call};
 use crate::tasks::{Task, next_in};
-use am_machine::Event;
+use am_machine::{Event, PacketBytes};
 use am_map::Entry;
 use am_names::{FailNo, FsId, JobId, Place, Trigger};
 use am_pipe::{Note, TakeEnd};
@@ -147,7 +147,7 @@ fn serve<L: Opened, G: Gate, B: Backend, R: Wait>(
     let note = &taken.1;
     let deliver = Event::Deliver {
         token: note.token,
-        bytes: Some(note.bytes),
+        bytes: Some(PacketBytes::new(alloc, &note.bytes)?),
     };
     let reply = call(rt, alloc, caller, &deliver)?;
     let Some(job) = reply.job() else {
