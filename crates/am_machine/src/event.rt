@@ -3,11 +3,13 @@
 ghost use Rattle.std.specs.Prelude.{◌≡◌, ◌↔◌, IsTrue, IfOk};
 ghost use Rattle.am_machine.specs.declared.event.Event.TheVariants as events;
 
+use crate::packet_bytes::PacketBytes;
 use am_group::Change;
 use am_names::{
     Attach, FailNo, FsId, JobId, NsId, PipeState, Place, Seconds, Status, Token, Trigger, WalkerId,
 };
 use am_propagate::CopyForm;
+use am_state::KeptTrigger;
 use std::alloc::{AllocError, Global};
 
 /// One event. The moment is handed in with those that have one, and may go back.
@@ -83,7 +85,7 @@ pub enum Event {
     /// The daemon takes a packet from the pipe: the queued one of this token, or these bytes.
     Deliver {
         token: Token,
-        bytes: Option<[u8; 304]>,
+        bytes: Option<PacketBytes>,
     },
     /// The daemon makes the next act of a job. A mount or an unmount fails with the error that is told
     /// here, if one is.
@@ -120,7 +122,7 @@ pub enum Event {
     },
     /// The daemon's book is read.
     Record {
-        trigger: Trigger,
+        trigger: KeptTrigger,
     },
 }
 
@@ -194,7 +196,7 @@ impl Event {
             },
             Event::Deliver { token, bytes } => Event::Deliver {
                 token: *token,
-                bytes: *bytes,
+                bytes: copy_bytes(alloc, bytes)?,
             },
             Event::Act { job, failure } => Event::Act {
                 job: *job,
@@ -225,7 +227,9 @@ impl Event {
             },
             Event::Die => Event::Die,
             Event::Reattach { fs } => Event::Reattach { fs: *fs },
-            Event::Record { trigger } => Event::Record { trigger: *trigger },
+            Event::Record { trigger } => Event::Record {
+                trigger: KeptTrigger::new(alloc, &trigger.to_trigger())?,
+            },
         })
     }
 
@@ -447,14 +451,33 @@ fn is_expire(
     }
 }
 
-fn is_deliver(token: Token, bytes: &Option<[u8; 304]>, event: &Event) -> bool
+fn copy_bytes(alloc: Global, bytes: &Option<PacketBytes>) -> Result<Option<PacketBytes>, AllocError>
+    ensures { IfOk result (λ copy. copy ≡ bytes.now) }
+{
+    match bytes {
+        None => Ok(None),
+        Some(bytes) => Ok(Some(bytes.copy(alloc)?)),
+    }
+}
+
+fn are_bytes(bytes: &Option<PacketBytes>, same: &Option<PacketBytes>) -> bool
+    ensures { IsTrue result ↔ (bytes.now ≡ same.now) }
+{
+    match (bytes, same) {
+        (None, None) => true,
+        (Some(bytes), Some(same)) => bytes.is_same(same),
+        (None, Some(_)) | (Some(_), None) => false,
+    }
+}
+
+fn is_deliver(token: Token, bytes: &Option<PacketBytes>, event: &Event) -> bool
     ensures { IsTrue result ↔ (events.Deliver token bytes.now ≡ event.now) }
 {
     match event {
         Event::Deliver {
             token: same_token,
             bytes: same_bytes,
-        } => token == *same_token && bytes == same_bytes,
+        } => token == *same_token && are_bytes(bytes, same_bytes),
         _ => false,
     }
 }
@@ -536,13 +559,13 @@ fn is_reattach(fs: FsId, event: &Event) -> bool
     }
 }
 
-fn is_record(trigger: &Trigger, event: &Event) -> bool
+fn is_record(trigger: &KeptTrigger, event: &Event) -> bool
     ensures { IsTrue result ↔ (events.Record trigger.now ≡ event.now) }
 {
     match event {
         Event::Record {
             trigger: same_trigger,
-        } => trigger.is_same(same_trigger),
+        } => trigger.to_trigger().is_same(&same_trigger.to_trigger()),
         _ => false,
     }
 }

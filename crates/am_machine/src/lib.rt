@@ -5,7 +5,9 @@ pub mod answer;
 pub mod entry;
 pub mod event;
 pub mod laws;
+pub mod packet_bytes;
 
 pub use answer::Answer;
 pub use entry::Entry;
 pub use event::Event;
+pub use packet_bytes::{PacketBytes, keep_bytes};

@@ -3,14 +3,14 @@
 ghost use Rattle.std.specs.Prelude.{◌≡◌, true, IfOk, MatchBool, OnErr, OnOk};
 ghost use Rattle.am_pipe.specs.{IsDrained};
 ghost use Rattle.am_runner.specs.declared.calls.Reply.TheVariants.{Done};
-ghost use Rattle.am_runner.specs.Calls.{Adds, Makes};
-ghost use Rattle.am_runner.specs.Roles.{GivesUp, IsAct, IsActOf, IsBrokenOff, IsEnd, IsGivenUp};
+ghost use Rattle.am_runner.specs.Calls.{Adds, IsCall, Makes, RanOut};
+ghost use Rattle.am_runner.specs.Roles.{GivesUp, IsAct, delivery, IsActOf, IsBrokenOff, IsEnd, IsGivenUp};
 ghost use Rattle.am_runner.specs.Roles.{IsService, IsTried, IsWork, Serves};
 ghost use Rattle.am_runner.specs.Tasks.{IsNextIn, IsSeen};
 
-use crate::calls::{TRIES, call};
+use crate::calls::{Reply, TRIES, call};
 use crate::tasks::{Task, next_in};
-use am_machine::Event;
+use am_machine::{Event, PacketBytes};
 use am_map::Entry;
 use am_names::{FailNo, FsId, JobId, Place, Trigger};
 use am_pipe::{Note, TakeEnd};
@@ -131,6 +131,38 @@ fn finish<L: Opened, B: Backend, R: Wait>(
     unreachable!()
 }
 
+/// The event that delivers the packet of a note. Where memory runs out it is made again, as often as a call is.
+fn delivery(alloc: Global, taken: &(u64, Note)) -> Result<Event, AllocError>
+    ensures { IfOk result (λ event. event ≡ delivery taken.now) }
+{
+    let note = &taken.1;
+    for _ in 0..TRIES {
+        match PacketBytes::new(alloc, &note.bytes) {
+            Ok(bytes) => return Ok(Event::Deliver {
+                token: note.token,
+                bytes: Some(bytes),
+            }),
+            Err(_) => thread::yield_now(),
+        }
+    }
+    Err(AllocError)
+}
+
+/// Delivers the packet of a note.
+fn deliver<L: Opened, R: Wait>(
+    rt: &R,
+    alloc: Global,
+    caller: &mut Caller<L>,
+    taken: &(u64, Note),
+) -> Result<Reply, AllocError>
+    ensures ok { IfOk result
+        (λ reply. Makes (IsCall (delivery taken.now) reply) caller.old caller.new) }
+    ensures err { OnErr result (Adds (RanOut (delivery taken.now)) caller.old caller.new) }
+{
+    let event = delivery(alloc, taken)?;
+    call(rt, alloc, caller, &event)
+}
+
 /// Delivers the packet of a note, and does what its job asks for. A packet that is refused is given
 /// up.
 fn serve<L: Opened, G: Gate, B: Backend, R: Wait>(
@@ -144,12 +176,7 @@ fn serve<L: Opened, G: Gate, B: Backend, R: Wait>(
     ensures ok { OnOk result (Makes (IsService taken.now) caller.old caller.new) }
     ensures err { OnErr result (Makes (IsBrokenOff taken.now) caller.old caller.new) }
 {
-    let note = &taken.1;
-    let deliver = Event::Deliver {
-        token: note.token,
-        bytes: Some(note.bytes),
-    };
-    let reply = call(rt, alloc, caller, &deliver)?;
+    let reply = deliver(rt, alloc, caller, taken)?;
     let Some(job) = reply.job() else {
         return Ok(());
     };

@@ -3,6 +3,7 @@ use Rattle.std.specs.Prelude.{ℕ, List, [], ◌∷◌, Option, None, Some, opti
 use Rattle.std.specs.Result.{result_ok}
 use Rattle.am_names.specs.{path_read, Status}
 use Rattle.am_names.specs.declared.fail_no.FailNo.{FailNo}
+use Rattle.am_names.specs.declared.trigger.Trigger.{Trigger}
 use Rattle.am_machine.specs.{Event}
 use Rattle.am_machine.specs.declared.event.Event.TheVariants as events
 use Rattle.am_script.specs.Numbers.{u32_read}
@@ -21,6 +22,10 @@ attach_event path = events.Attach path
 abbrev pub deliver_of : Option ℕ → Option (List ℕ) → Option Event
 deliver_of (Some token) (Some bytes) = Some (events.Deliver token (Some bytes))
 deliver_of token bytes = None
+
+-- the event of a line that says this token, and these bytes or none
+abbrev pub deliver_event : ℕ × Option (List ℕ) → Event
+deliver_event said = events.Deliver said.0 said.1
 
 -- `deliver T`, `deliver T HEX`
 abbrev pub deliver_read : List (List ℕ) → Option Event
@@ -84,6 +89,10 @@ reattach_read words = None
 abbrev pub record_of : Option ℕ → Option (Option (List ℕ)) → Option Event
 record_of (Some fs) (Some name) = Some (events.Record (record { fs = fs; name = name }))
 record_of fs name = None
+
+-- the event of a line whose trigger is this
+abbrev pub record_event : Trigger → Event
+record_event trigger = events.Record trigger
 
 -- `record FS NAME`
 abbrev pub record_read : List (List ℕ) → Option Event

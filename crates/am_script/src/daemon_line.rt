@@ -2,15 +2,16 @@
 
 ghost use Rattle.std.specs.Prelude.{◌≡◌, option_map};
 ghost use Rattle.am_lines.specs.{words_of};
-ghost use Rattle.am_script.specs.DaemonLines.{attach_read, attach_event, deliver_read, act_read, repeat_read, catatonic_read, timeout_read, die_read, reattach_read, record_read};
+ghost use Rattle.am_script.specs.DaemonLines.{attach_read, attach_event, deliver_read, deliver_event, act_read, repeat_read, catatonic_read, timeout_read, die_read, reattach_read, record_read, record_event};
 ghost use Rattle.am_script.specs.Events.{ReadAs};
 
 use crate::event_word::{read_outcome, read_status, read_trigger_name};
 use crate::line_words::{only_word, three_words, two_words};
 use crate::number::{read_packet, read_u32};
 use am_lines::next_word;
-use am_machine::Event;
+use am_machine::{Event, keep_bytes};
 use am_names::{AbsPath, Attach, FsId, JobId, Token, Trigger};
+use am_state::KeptTrigger;
 use std::alloc::{AllocError, Global};
 
 #[tactic(auto, using(crate::proofs::LineWordsLemmas::no_attach))]
@@ -31,23 +32,29 @@ pub(crate) fn read_attach(alloc: Global, words: &[u8]) -> Result<Option<Event>, 
     }))
 }
 
-pub(crate) fn read_deliver(words: &[u8]) -> Option<Event>
-    ensures { result ≡ deliver_read (words_of words.now) }
+fn deliver_words(words: &[u8]) -> Option<(Token, Option<[u8; 304]>)>
+    ensures { option_map deliver_event result ≡ deliver_read (words_of words.now) }
 {
     let (token, words) = next_word(words)?;
     let Some((digits, words)) = next_word(words) else {
-        return Some(Event::Deliver {
-            token: Token(read_u32(token)?),
-            bytes: None,
-        });
+        return Some((Token(read_u32(token)?), None));
     };
     if let Some(_) = next_word(words) {
         return None;
     }
-    Some(Event::Deliver {
-        token: Token(read_u32(token)?),
-        bytes: Some(read_packet(digits)?),
-    })
+    Some((Token(read_u32(token)?), Some(read_packet(digits)?)))
+}
+
+pub(crate) fn read_deliver(alloc: Global, words: &[u8]) -> Result<Option<Event>, AllocError>
+    ensures { ReadAs (deliver_read (words_of words.now)) result }
+{
+    let Some((token, bytes)) = deliver_words(words) else {
+        return Ok(None);
+    };
+    Ok(Some(Event::Deliver {
+        token,
+        bytes: keep_bytes(alloc, &bytes)?,
+    }))
 }
 
 pub(crate) fn read_act(words: &[u8]) -> Option<Event>
@@ -115,14 +122,23 @@ pub(crate) fn read_reattach(words: &[u8]) -> Option<Event>
 }
 
 #[tactic(auto, using(crate::proofs::LineWordsLemmas::no_record))]
-pub(crate) fn read_record(words: &[u8]) -> Option<Event>
-    ensures { result ≡ record_read (words_of words.now) }
+fn record_words(words: &[u8]) -> Option<Trigger>
+    ensures { option_map record_event result ≡ record_read (words_of words.now) }
 {
     let (fs, name) = two_words(words)?;
-    Some(Event::Record {
-        trigger: Trigger {
-            fs: FsId(read_u32(fs)?),
-            name: read_trigger_name(name)?,
-        },
+    Some(Trigger {
+        fs: FsId(read_u32(fs)?),
+        name: read_trigger_name(name)?,
     })
+}
+
+pub(crate) fn read_record(alloc: Global, words: &[u8]) -> Result<Option<Event>, AllocError>
+    ensures { ReadAs (record_read (words_of words.now)) result }
+{
+    let Some(trigger) = record_words(words) else {
+        return Ok(None);
+    };
+    Ok(Some(Event::Record {
+        trigger: KeptTrigger::new(alloc, &trigger)?,
+    }))
 }

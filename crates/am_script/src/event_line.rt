@@ -34,30 +34,30 @@ fn read_by_word(alloc: Global, word: &[u8], words: &[u8]) -> Result<Option<Event
         _ if is_word(word, b"nscopy") => Ok(read_nscopy(words)),
         _ if is_word(word, b"nsdrop") => Ok(read_nsdrop(words)),
         _ if is_word(word, b"walk") => read_walk(alloc, words),
-        _ => Ok(read_plain(word, words)),
+        _ => read_later(alloc, word, words),
     }
 }
 
-/// The event of a line that takes no memory, by the later words of that table.
+/// The event of a line by the later words of that table.
 #[tactic(auto, unfolding(crate::specs::Events::event_by_word))]
-fn read_plain(word: &[u8], words: &[u8]) -> Option<Event>
+fn read_later(alloc: Global, word: &[u8], words: &[u8]) -> Result<Option<Event>, AllocError>
     requires { IsLater word.now }
-    ensures { result ≡ event_by_word word.now (words_of words.now) }
+    ensures { ReadAs (event_by_word word.now (words_of words.now)) result }
 {
     match word {
-        _ if is_word(word, b"resume") => read_resume(words),
-        _ if is_word(word, b"leave") => read_leave(words),
-        _ if is_word(word, b"expire") => read_expire(words),
-        _ if is_word(word, b"deliver") => read_deliver(words),
-        _ if is_word(word, b"act") => read_act(words),
-        _ if is_word(word, b"repeat") => read_repeat(words),
-        _ if is_word(word, b"catatonic") => read_catatonic(words),
-        _ if is_word(word, b"admincat") => read_admincat(words),
-        _ if is_word(word, b"timeout") => read_timeout(words),
-        _ if is_word(word, b"die") => read_die(words),
-        _ if is_word(word, b"reattach") => read_reattach(words),
-        _ if is_word(word, b"record") => read_record(words),
-        _ => None,
+        _ if is_word(word, b"resume") => Ok(read_resume(words)),
+        _ if is_word(word, b"leave") => Ok(read_leave(words)),
+        _ if is_word(word, b"expire") => Ok(read_expire(words)),
+        _ if is_word(word, b"deliver") => read_deliver(alloc, words),
+        _ if is_word(word, b"act") => Ok(read_act(words)),
+        _ if is_word(word, b"repeat") => Ok(read_repeat(words)),
+        _ if is_word(word, b"catatonic") => Ok(read_catatonic(words)),
+        _ if is_word(word, b"admincat") => Ok(read_admincat(words)),
+        _ if is_word(word, b"timeout") => Ok(read_timeout(words)),
+        _ if is_word(word, b"die") => Ok(read_die(words)),
+        _ if is_word(word, b"reattach") => Ok(read_reattach(words)),
+        _ if is_word(word, b"record") => read_record(alloc, words),
+        _ => Ok(None),
     }
 }
 

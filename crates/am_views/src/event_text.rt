@@ -10,7 +10,7 @@ use am_names::{FailNo, FsId, Name, NsId, PipeState, Place, Seconds, Status, Walk
 use am_propagate::CopyForm;
 use am_script::answer_line::{put_number, put_place, put_word};
 use am_script::output::Output;
-use am_world::Event;
+use am_world::{Event, PacketBytes};
 use hex::encode_to_slice;
 use std::alloc::AllocError;
 use std::io::Write;
@@ -127,6 +127,7 @@ pub(crate) fn put_event<W: Write>(output: &mut Output, event: &Event, writer: &m
         Event::Die => put_word(output, b"die", writer),
         Event::Reattach { fs } => put_number(output, b"reattach ", u64::from(fs.0), writer),
         Event::Record { trigger } => {
+            let trigger = trigger.to_trigger();
             put_number(output, b"record ", u64::from(trigger.fs.0), writer);
             put_name(output, &trigger.name, writer)
         }
@@ -251,13 +252,13 @@ fn put_outcome<W: Write>(output: &mut Output, failure: Option<FailNo>, writer: &
 }
 
 #[tactic(auto, using(am_script::proofs::Pieces::puts_two, am_script::proofs::Pieces::puts_none))]
-fn put_bytes<W: Write>(output: &mut Output, bytes: &Option<[u8; 304]>, writer: &mut W)
+fn put_bytes<W: Write>(output: &mut Output, bytes: &Option<PacketBytes>, writer: &mut W)
     ensures { Puts output.old output.new (bytes_part bytes.now) (W.contents writer.old)
         (W.contents writer.new) }
 {
     if let Some(bytes) = bytes {
         put_word(output, b" ", writer);
-        put_hex(output, bytes, writer);
+        put_hex(output, bytes.as_array(), writer);
     }
 }
 

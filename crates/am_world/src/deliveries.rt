@@ -8,7 +8,7 @@ ghost use Rattle.am_world.specs.Machine.{whole_state, written, Yields};
 use crate::machine::Machine;
 use am_daemon::DaemonFault;
 use am_daemon::acts::Writing;
-use am_machine::Answer;
+use am_machine::{Answer, PacketBytes};
 use am_names::{Errno, Token};
 use am_state::{KeptPacket, KeptTrigger, Obs, QueuedRow};
 use am_wire::write;
@@ -24,14 +24,14 @@ pub fn bytes_of(row: &QueuedRow) -> [u8; 304]
 }
 
 /// Whether these are the bytes of a queued packet, if any are handed in.
-fn has_bytes(bytes: &Option<[u8; 304]>, row: &QueuedRow) -> bool
+fn has_bytes(bytes: &Option<PacketBytes>, row: &QueuedRow) -> bool
     ensures { result ≡ has_bytes bytes.now row.now }
 {
     match bytes {
         None => true,
         Some(bytes) => {
             let queued = bytes_of(row);
-            bytes.as_slice() == queued.as_slice()
+            bytes.as_array().as_slice() == queued.as_slice()
         }
     }
 }
@@ -97,7 +97,7 @@ impl Machine {
         &mut self,
         alloc: Global,
         token: Token,
-        bytes: &Option<[u8; 304]>,
+        bytes: &Option<PacketBytes>,
     ) -> Result<Answer, Errno>
         ensures { Yields (deliver_outcome (whole_state self.old) token bytes.now)
             (whole_state self.old) result (whole_state self.new) }

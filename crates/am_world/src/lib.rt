@@ -17,7 +17,7 @@ pub use am_daemon::Known;
 pub use am_expire::{Use, Uses};
 pub use am_job::{Act, Book, Job};
 pub use am_kernel::{Attached, WalkRow};
-pub use am_machine::{Answer, Event};
+pub use am_machine::{Answer, Event, PacketBytes};
 pub use am_state::{HeldRow, KeptPacket, KeptTrigger, Obs, QueuedRow, Record};
 pub use am_trigger::{Autofs, Failure, Failures, Triggers};
 pub use views::Last;

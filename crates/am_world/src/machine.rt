@@ -66,7 +66,7 @@ impl Machine {
             } => self.set_timeout(*attach, *fs, *timeout),
             Event::Die => self.die(),
             Event::Reattach { fs } => self.reattach(alloc, *fs),
-            Event::Record { trigger } => self.read_book(trigger),
+            Event::Record { trigger } => self.read_book(&trigger.to_trigger()),
         }
     }
 }
