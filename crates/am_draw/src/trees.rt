@@ -17,11 +17,11 @@ use am_world::{Act, Event, World};
 use std::alloc::{AllocError, Global};
 use std::io::Write;
 
-/// The mounts before an event, if some may go in it, and those behind it.
+/// The mounts before an event, if some may go in it, and the world behind it.
 #[derive(Clone, Copy)]
 pub struct Trees<'a> {
     pub before: &'a [MountRow],
-    pub behind: &'a [MountRow],
+    pub behind: &'a World,
 }
 
 fn is_umount(act: Option<&Act>) -> bool
