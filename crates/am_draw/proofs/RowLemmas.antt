@@ -5,7 +5,8 @@ use Rattle.std.proofs.Math.Seq.{take-length}
 use Rattle.am_names.specs.{MountRow}
 use Rattle.am_kernel.specs.{KernelState}
 use Rattle.am_state.specs.{Obs}
-use Rattle.am_draw.specs.{Ending, Holder, LaneKind, Lasts, Until, changed, seen_behind, lane_x, bar, ends_lane, IsNextEnding, lane_bar, lane_bars, obs_drawn, seen_drawn}
+use Rattle.am_draw.specs.declared.marks.LaneKind.TheVariants.{Narrow}
+use Rattle.am_draw.specs.{Ending, Failing, Holder, LaneKind, Lasts, Until, changed, failing_bar, failing_bars_in, seen_behind, lane_x, bar, ends_lane, IsNextEnding, lane_bar, lane_bars, obs_drawn, seen_drawn}
 
 bars_push : (lanes : LaneKind) (walkers : ℕ) (ending : Ending) (until : Until) (number : ℕ) (before : List (Option Holder)) (lane : Option Holder) → lane_bars lanes walkers ending until number (before ++ lane ∷ []) ≡ lane_bars lanes walkers ending until number before ++ lane_bar ending until lane (lane_x lanes walkers (number + length before))
 bars_push lanes walkers ending until number [] lane =
@@ -59,6 +60,13 @@ pub bars_done : (kind : LaneKind) (walkers : ℕ) (ending : Ending) (until : Unt
 bars_done kind walkers ending until lanes from le none =
     sym (passed_to kind walkers ending until lanes from (length lanes) le (omega arith) none)
     ∙ ap (lane_bars kind walkers ending until 0) (take-length lanes)
+
+-- the bar of a failure in one lane more is drawn, if it ends
+pub failing_bars_next : (negative : ℕ) (ending : Option KernelState) (until : Until) (first : ℕ) (lanes : List (Option Failing)) (n x : ℕ) → x ≡ lane_x Narrow first n → failing_bars_in negative ending until first lanes n ++ failing_bar negative ending until (get_or lanes n None) x ≡ failing_bars_in negative ending until first lanes (n + 1)
+failing_bars_next negative ending until first lanes n x at =
+    let is : suc n ≡ n + 1 = omega arith in
+    ap (λ (m : ℕ). failing_bars_in negative ending until first lanes n ++ failing_bar negative ending until (get_or lanes n None) m) at
+    ∙ ap (failing_bars_in negative ending until first lanes) is
 
 drawn_push : (before : List MountRow) (after : KernelState) (until : Until) (lasts : Lasts) (seen : List Obs) (obs : Obs) → seen_drawn before after until lasts (seen ++ obs ∷ []) ≡ seen_drawn before after until lasts seen ++ obs_drawn before after until (seen_behind until.number lasts seen) obs
 drawn_push before after until lasts [] obs = append-nil (obs_drawn before after until lasts obs)

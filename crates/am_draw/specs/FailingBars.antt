@@ -68,7 +68,7 @@ failing_words negative held =
 abbrev pub fresh_marks : Lasts → Option Failing → List ℕ
 fresh_marks lasts None = []
 fresh_marks lasts (Some held) =
-    label (codes "s failed") (lane_x Narrow (first_failing lasts) (empty_lane lasts.failures) + 8) 24
+    label (codes "s failed") (lane_x Narrow (first_failing lasts) (empty_lane lasts.failures) + 8) 26
     (failing_words lasts.negative held)
 
 -- what is drawn of failures behind an event that leaves this kernel: the bars of those that last no longer,

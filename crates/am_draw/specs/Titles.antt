@@ -1,6 +1,6 @@
 -- The titles of the columns, which stand once more each forty rows, with who has a bar there: own choice
 -- (docs/FORMATS.md, "Pictures").
-use Rattle.std.specs.Prelude.{ℕ, zero, suc, ◌+◌, ◌-◌, ◌*◌, List, [], ◌++◌, get_or, codes, decimal, Option, None, Some, if◌then◌else◌}
+use Rattle.std.specs.Prelude.{ℕ, zero, suc, ◌+◌, ◌-◌, ◌*◌, ◌%◌, List, [], ◌++◌, get_or, codes, decimal, Option, None, Some, if◌then◌else◌}
 use Rattle.am_lanes.specs.{Holder, Look}
 use Rattle.am_lanes.specs.declared.holder.Look.TheVariants.{Missing, Expire, Ended, Waits, Inside, Idle, Catatonic, Dead}
 use Rattle.am_draw.specs.declared.failing.Failing.{Failing}
@@ -50,18 +50,22 @@ abbrev pub short_words : ℕ → Option (List ℕ) → List ℕ
 short_words fs None = codes "fs " ++ decimal fs
 short_words fs (Some name) = words 2 name
 
--- that of the failure in a lane
-abbrev pub failing_name : Option Failing → ℕ → List ℕ
-failing_name None x = []
-failing_name (Some held) x =
-    label (codes "k failed") x 21 (short_words held.trigger.fs held.trigger.name)
+-- that of the failure in a lane, at this height
+abbrev pub failing_name : Option Failing → ℕ → ℕ → List ℕ
+failing_name None x y = []
+failing_name (Some held) x y =
+    label (codes "k failed") x y (short_words held.trigger.fs held.trigger.name)
+
+-- the height of the name of a lane: names stand at two heights by turns, as they are wider than a lane
+abbrev pub name_y : ℕ → ℕ
+name_y lane = 10 + 11 * (lane % 2)
 
 -- those in the first so many of these lanes, the first of which stands there
 abbrev pub failing_names : ℕ → List (Option Failing) → ℕ → List ℕ
 failing_names first lanes zero = []
 failing_names first lanes (suc lane) =
     failing_names first lanes lane
-    ++ failing_name (get_or lanes lane None) (lane_x Narrow first lane)
+    ++ failing_name (get_or lanes lane None) (lane_x Narrow first lane) (name_y lane)
 
 -- who has a bar
 abbrev pub names : Lasts → List ℕ

@@ -134,7 +134,7 @@ fn count_opened(
         (lines_in (option_copied opened.entry.rest))) counted.size) }
     ensures lasts { IfOk result (λ counted. lasts_of counted.lasting
         ≡ nothing_lasts counted.size.tokens counted.size.walkers counted.size.systems
-        counted.size.daemon) }
+        counted.size.daemon counted.size.failures counted.size.negative) }
     ensures err { IfErr result (NotCounted (events_from opened.entry.broke opened.entry.line
         (lines_in (option_copied opened.entry.rest)))) }
 {

@@ -154,10 +154,10 @@ fn put_failing_label<W: Write>(
     held: &Failing,
     writer: &mut W,
 )
-    ensures { Puts output.old output.new (label (codes "s failed") x 24
+    ensures { Puts output.old output.new (label (codes "s failed") x 26
         (failing_words negative held.now)) (W.contents writer.old) (W.contents writer.new) }
 {
-    put_opening(output, b"s failed", x, 24, writer);
+    put_opening(output, b"s failed", x, 26, writer);
     put_failing_words(output, negative, held, writer);
     put_closing(output, writer);
 }

@@ -5,7 +5,7 @@ ghost use Rattle.am_script.specs.{Puts};
 ghost use Rattle.am_draw.specs.Lasting.{lasts_of};
 ghost use Rattle.am_draw.specs.Look.{left_again_text, right_again_text};
 ghost use Rattle.am_draw.specs.Marks.{label};
-ghost use Rattle.am_draw.specs.Titles.{name, lane_name, first_names, short_words, failing_name, failing_names, named_lanes, names, tokens_again, right_again, titles, titles_in};
+ghost use Rattle.am_draw.specs.Titles.{name, lane_name, first_names, short_words, failing_name, failing_names, name_y, named_lanes, names, tokens_again, right_again, titles, titles_in};
 
 use crate::failing::Failing;
 use crate::failing_bars::first_failing;
@@ -115,24 +115,43 @@ fn put_short_words<W: Write>(output: &mut Output, trigger: &Trigger, writer: &mu
 }
 
 #[tactic(auto, using(am_script::proofs::Pieces::puts_three))]
-fn put_short_label<W: Write>(output: &mut Output, trigger: &Trigger, x: u64, writer: &mut W)
-    ensures { Puts output.old output.new (label (codes "k failed") x 21
+fn put_short_label<W: Write>(
+    output: &mut Output,
+    trigger: &Trigger,
+    x: u64,
+    y: u64,
+    writer: &mut W,
+)
+    ensures { Puts output.old output.new (label (codes "k failed") x y
         (short_words trigger.now.fs trigger.now.name)) (W.contents writer.old)
         (W.contents writer.new) }
 {
-    put_opening(output, b"k failed", x, 21, writer);
+    put_opening(output, b"k failed", x, y, writer);
     put_short_words(output, trigger, writer);
     put_closing(output, writer);
 }
 
 #[tactic(auto, using(am_script::proofs::Pieces::puts_none))]
-fn put_failing_name<W: Write>(output: &mut Output, lane: &Option<Failing>, x: u64, writer: &mut W)
-    ensures { Puts output.old output.new (failing_name lane.now x) (W.contents writer.old)
+fn put_failing_name<W: Write>(
+    output: &mut Output,
+    lane: &Option<Failing>,
+    x: u64,
+    y: u64,
+    writer: &mut W,
+)
+    ensures { Puts output.old output.new (failing_name lane.now x y) (W.contents writer.old)
         (W.contents writer.new) }
 {
     if let Some(held) = lane {
-        put_short_label(output, &held.trigger, x, writer);
+        put_short_label(output, &held.trigger, x, y, writer);
     }
+}
+
+/// The height of the name of a lane: names stand at two heights by turns, as they are wider than a lane.
+fn name_y(lane: usize) -> u64
+    ensures { result ≡ name_y lane }
+{
+    10 + 11 * (lane as u64 % 2)
 }
 
 fn failing_at(lanes: &[Option<Failing>], lane: usize) -> Option<Failing>
@@ -158,7 +177,7 @@ fn put_failing_names<W: Write>(
 {
     for lane in 0..NAMED_LANES {
         let x = lane_x(LaneKind::Narrow, first, lane);
-        put_failing_name(output, &failing_at(lanes, lane), x, writer);
+        put_failing_name(output, &failing_at(lanes, lane), x, name_y(lane), writer);
     }
 }
 
