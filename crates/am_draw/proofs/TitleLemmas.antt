@@ -11,9 +11,9 @@ names_next kind walkers lanes n x at =
     ∙ ap (lane_names kind walkers lanes) is
 
 -- and which failure
-pub failing_next : (first : ℕ) (lanes : List (Option Failing)) (n x y : ℕ) → x ≡ lane_x Narrow first n → y ≡ name_y n → failing_names first lanes n ++ failing_name (get_or lanes n None) x y ≡ failing_names first lanes (n + 1)
+pub failing_next : (first : ℕ) (lanes : List (Option Failing)) (n x y : ℕ) → x ≡ lane_x Narrow first n → y ≡ name_y n → failing_names first lanes n ++ failing_name (get_or lanes n None) (x + 5) y ≡ failing_names first lanes (n + 1)
 failing_next first lanes n x y at high =
     let is : suc n ≡ n + 1 = omega arith in
-    ap (λ (m : ℕ). failing_names first lanes n ++ failing_name (get_or lanes n None) m y) at
-    ∙ ap (λ (m : ℕ). failing_names first lanes n ++ failing_name (get_or lanes n None) (lane_x Narrow first n) m) high
+    ap (λ (m : ℕ). failing_names first lanes n ++ failing_name (get_or lanes n None) (m + 5) y) at
+    ∙ ap (λ (m : ℕ). failing_names first lanes n ++ failing_name (get_or lanes n None) (lane_x Narrow first n + 5) m) high
     ∙ ap (failing_names first lanes) is

@@ -54,18 +54,18 @@ short_words fs (Some name) = words 2 name
 abbrev pub failing_name : Option Failing → ℕ → ℕ → List ℕ
 failing_name None x y = []
 failing_name (Some held) x y =
-    label (codes "k failed") x y (short_words held.trigger.fs held.trigger.name)
+    label (codes "s failed") x y (short_words held.trigger.fs held.trigger.name)
 
 -- the height of the name of a lane: names stand at two heights by turns, as they are wider than a lane
 abbrev pub name_y : ℕ → ℕ
 name_y lane = 10 + 11 * (lane % 2)
 
--- those in the first so many of these lanes, the first of which stands there
+-- those in the first so many of these lanes, the first of which stands there: each at the right of its bar
 abbrev pub failing_names : ℕ → List (Option Failing) → ℕ → List ℕ
 failing_names first lanes zero = []
 failing_names first lanes (suc lane) =
     failing_names first lanes lane
-    ++ failing_name (get_or lanes lane None) (lane_x Narrow first lane) (name_y lane)
+    ++ failing_name (get_or lanes lane None) (lane_x Narrow first lane + 5) (name_y lane)
 
 -- who has a bar
 abbrev pub names : Lasts → List ℕ

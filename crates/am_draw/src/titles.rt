@@ -122,11 +122,11 @@ fn put_short_label<W: Write>(
     y: u64,
     writer: &mut W,
 )
-    ensures { Puts output.old output.new (label (codes "k failed") x y
+    ensures { Puts output.old output.new (label (codes "s failed") x y
         (short_words trigger.now.fs trigger.now.name)) (W.contents writer.old)
         (W.contents writer.new) }
 {
-    put_opening(output, b"k failed", x, y, writer);
+    put_opening(output, b"s failed", x, y, writer);
     put_short_words(output, trigger, writer);
     put_closing(output, writer);
 }
@@ -176,7 +176,7 @@ fn put_failing_names<W: Write>(
         (W.contents writer.old) (W.contents writer.new) }
 {
     for lane in 0..NAMED_LANES {
-        let x = lane_x(LaneKind::Narrow, first, lane);
+        let x = lane_x(LaneKind::Narrow, first, lane) + 5;
         put_failing_name(output, &failing_at(lanes, lane), x, name_y(lane), writer);
     }
 }
