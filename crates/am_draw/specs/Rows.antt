@@ -1,7 +1,7 @@
 -- The row of an event: own choice (docs/FORMATS.md, "Pictures").
 use Rattle.std.specs.Prelude.{ℕ, ◌+◌, ◌-◌, ◌*◌, List, [], ◌∷◌, ◌++◌, codes, decimal, Option, None, Some}
 use Rattle.am_kernel.specs.{KernelState}
-use Rattle.am_names.specs.{MountRow, Status, fail_number}
+use Rattle.am_names.specs.{MountRow, Status, errno_of, fail_number}
 use Rattle.am_names.specs.declared.trigger.Trigger.{Trigger}
 use Rattle.am_names.specs.declared.trigger.Status.TheVariants.{Ready, Fail}
 use Rattle.am_wire.specs.declared.packet_type.PacketType.{PacketType}
@@ -18,7 +18,7 @@ use Rattle.am_draw.specs.declared.stretch.Until.{Until}
 use Rattle.am_draw.specs.declared.part.Part.{Part}
 use Rattle.am_draw.specs.declared.went.Went.{Went}
 use Rattle.am_lanes.specs.{lane_of}
-use Rattle.am_draw.specs.Errors.{answer_class, answer_words, mark_of, went_of}
+use Rattle.am_draw.specs.Errors.{answer_class, answer_words, error_word, mark_of, went_of}
 use Rattle.am_draw.specs.FailingBars.{failures_drawn, named_words}
 use Rattle.am_draw.specs.Lasting.{Lasts, changed, acted, behind, seen_behind}
 use Rattle.am_draw.specs.Marks.{stamp, stroke, label, lane_x, first_walker, first_token, first_system, daemon_x}
@@ -150,10 +150,16 @@ abbrev pub status_words : Status → List ℕ
 status_words Ready = codes "READY"
 status_words (Fail error) = codes "FAIL " ++ decimal (fail_number error)
 
+-- the name of a failure's error, below the arrow
+abbrev pub status_error : ℕ → Status → List ℕ
+status_error x Ready = []
+status_error x (Fail error) = label (codes "no") x 22 (error_word (errno_of error))
+
 -- a walker is released from a token with this status
 abbrev pub released_marks : ℕ → ℕ → Status → List ℕ
 released_marks from to status =
-    stroke (released_class status) from to ++ label (status_class status) (to + 9) 9 (status_words status)
+    stroke (released_class status) from to
+    ++ (label (status_class status) (to + 9) 9 (status_words status) ++ status_error (to + 9) status)
 
 -- what the book says of a trigger from here on
 abbrev pub book_marks : ℕ → Trigger → Option Record → List ℕ

@@ -1,13 +1,14 @@
 //! The marks in the row of an event.
 
 ghost use Rattle.std.specs.Prelude.{◌≡◌, ◌≤◌, ◌+◌, ◌-◌, ◌++◌, codes, decimal};
-ghost use Rattle.am_names.specs.{fail_number};
+ghost use Rattle.am_names.specs.{errno_of, fail_number};
+ghost use Rattle.am_draw.specs.Errors.{error_word};
 ghost use Rattle.am_script.specs.{entry_text, Puts};
 ghost use Rattle.am_draw.specs.Lasting.{lasts_of, changed, seen_behind, turned, behind};
 ghost use Rattle.am_draw.specs.Marks.{stamp, label};
 ghost use Rattle.am_draw.specs.Parts.{most_rows};
 ghost use Rattle.am_draw.specs.Stretches.{moved};
-ghost use Rattle.am_draw.specs.Rows.{token_x, walker_x, system_x, inset, numbered_mark, walker_mark, administrator_mark, daemon_mark, act_mark, actor_marks, kind_words, packet_words, queued_marks, answered_symbol, released_class, status_class, status_words, released_marks, book_marks, catatonic_words, shifted, obs_marks, obs_drawn, seen_drawn, told_drawn, marks};
+ghost use Rattle.am_draw.specs.Rows.{token_x, walker_x, system_x, inset, numbered_mark, walker_mark, administrator_mark, daemon_mark, act_mark, actor_marks, kind_words, packet_words, queued_marks, answered_symbol, released_class, status_class, status_words, status_error, released_marks, book_marks, catatonic_words, shifted, obs_marks, obs_drawn, seen_drawn, told_drawn, marks};
 ghost use Rattle.am_draw.specs.FailingBars.{named_words};
 ghost use Rattle.am_draw.specs.Trees.{mounts_marks};
 ghost use Rattle.am_draw.specs.Words.{words};
@@ -21,9 +22,9 @@ use crate::stretch::{
     Until, first_system, first_token, moved, put_ended_bars, put_living_bars, walker_columns,
 };
 use crate::trees::{Trees, put_mounts};
-use crate::went::{Went, mark_of};
+use crate::went::{Went, error_word, mark_of};
 use crate::words::put_words;
-use am_names::{Attach, FsId, JobId, MountIds, MountRow, Status, Token, Trigger, WalkerId};
+use am_names::{Attach, FailNo, FsId, JobId, MountIds, MountRow, Status, Token, Trigger, WalkerId};
 use am_script::answer_line::{put_entry, put_number, put_word};
 use am_script::output::Output;
 use am_state::KeptTrigger;
@@ -479,8 +480,29 @@ fn put_status_label<W: Write>(output: &mut Output, x: u64, status: Status, write
     put_closing(output, writer);
 }
 
+#[tactic(auto, using(am_script::proofs::Pieces::puts_three))]
+fn put_error_label<W: Write>(output: &mut Output, x: u64, error: FailNo, writer: &mut W)
+    ensures { Puts output.old output.new (label (codes "no") x 22 (error_word (errno_of error)))
+        (W.contents writer.old) (W.contents writer.new) }
+{
+    put_opening(output, b"no", x, 22, writer);
+    put_word(output, error_word(error.errno()), writer);
+    put_closing(output, writer);
+}
+
+/// Puts out the name of a failure's error.
+fn put_status_error<W: Write>(output: &mut Output, x: u64, status: Status, writer: &mut W)
+    ensures { Puts output.old output.new (status_error x status) (W.contents writer.old)
+        (W.contents writer.new) }
+{
+    match status {
+        Status::Ready => put_word(output, b"", writer),
+        Status::Fail(error) => put_error_label(output, x, error, writer),
+    }
+}
+
 /// Puts out the arrow to a walker that is released.
-#[tactic(auto, using(am_script::proofs::Pieces::puts_two))]
+#[tactic(auto, using(am_script::proofs::Pieces::puts_three))]
 fn put_released<W: Write>(output: &mut Output, from: u64, to: u64, status: Status, writer: &mut W)
     requires { to ≤ 88000344 }
     ensures { Puts output.old output.new (released_marks from to status) (W.contents writer.old)
@@ -488,6 +510,7 @@ fn put_released<W: Write>(output: &mut Output, from: u64, to: u64, status: Statu
 {
     put_stroke(output, released_class(status), from, to, writer);
     put_status_label(output, to + 9, status, writer);
+    put_status_error(output, to + 9, status, writer);
 }
 
 #[tactic(auto, using(am_script::proofs::Pieces::puts_two))]
