@@ -10,7 +10,7 @@ ghost use Rattle.am_draw.specs.Parts.{most_rows};
 ghost use Rattle.am_draw.specs.Stretches.{moved};
 ghost use Rattle.am_draw.specs.Rows.{token_x, walker_x, system_x, inset, numbered_mark, walker_mark, administrator_mark, daemon_mark, act_mark, actor_marks, kind_words, packet_words, queued_marks, answered_symbol, released_class, status_class, status_words, status_error, released_marks, book_marks, catatonic_words, shifted, obs_marks, obs_drawn, seen_drawn, told_drawn, marks};
 ghost use Rattle.am_draw.specs.FailingBars.{named_words};
-ghost use Rattle.am_draw.specs.Trees.{mounts_marks};
+ghost use Rattle.am_draw.specs.Trees.{mounts_marks, tree_rows};
 ghost use Rattle.am_draw.specs.Words.{words};
 
 use crate::failing_bars::{put_failures, put_named};
@@ -21,10 +21,10 @@ use crate::marks::{
 use crate::stretch::{
     Until, first_system, first_token, moved, put_ended_bars, put_living_bars, walker_columns,
 };
-use crate::trees::{Trees, put_mounts};
+use crate::trees::{MountRows, Trees, put_mounts};
 use crate::went::{Went, error_word, mark_of};
 use crate::words::put_words;
-use am_names::{Attach, FailNo, FsId, JobId, MountIds, MountRow, Status, Token, Trigger, WalkerId};
+use am_names::{Attach, FailNo, FsId, JobId, MountIds, Status, Token, Trigger, WalkerId};
 use am_script::answer_line::{put_entry, put_number, put_word};
 use am_script::output::Output;
 use am_state::KeptTrigger;
@@ -268,12 +268,12 @@ fn put_shifted<W: Write>(
     lasting: &Lasting,
     symbol: &[u8],
     joint: &[u8],
-    rows: &[MountRow],
+    rows: &MountRows<'_>,
     mounts: &MountIds,
     writer: &mut W,
 )
     ensures { Puts output.old output.new (shifted (moved (lasts_of lasting.now))
-        (mounts_marks symbol.now joint.now rows.now mounts.now))
+        (mounts_marks symbol.now joint.now (tree_rows rows.now) mounts.now))
         (W.contents writer.old) (W.contents writer.new) }
 {
     let far = moved(lasting);
@@ -331,7 +331,7 @@ fn put_obs<W: Write>(
                 lasting,
                 b"came",
                 b" on ",
-                trees.behind.mounts(),
+                &MountRows::Behind(trees.behind),
                 mounts,
                 writer,
             )
@@ -342,7 +342,7 @@ fn put_obs<W: Write>(
                 lasting,
                 b"went",
                 b" off ",
-                trees.before,
+                &MountRows::Before(trees.before),
                 mounts,
                 writer,
             )
