@@ -39,7 +39,7 @@ pub(crate) fn first_failing(lasting: &Lasting) -> u64
 
 /// Whether the bar of a failure ends: behind the event it lasts no longer, or all end.
 fn ends_failing(ending: Option<&World>, negative: Seconds, held: &Failing) -> bool
-    ensures { result ≡ ends_failing negative (kernel_of (option_copied ending)) held.now }
+    ensures { result ≡ ends_failing negative (kernel_of (option_copied ending.entry)) held.now }
 {
     match ending {
         None => true,
@@ -60,7 +60,7 @@ fn put_failing_bar<W: Write>(
 )
     requires rows { until.now.number - until.now.skipped ≤ most_rows }
     requires more { until.now.more ≤ 13 }
-    ensures { Puts output.old output.new (failing_bar negative (kernel_of (option_copied ending))
+    ensures { Puts output.old output.new (failing_bar negative (kernel_of (option_copied ending.entry))
         until.now lane.now x) (W.contents writer.old) (W.contents writer.new) }
 {
     if let Some(held) = lane {
@@ -81,7 +81,7 @@ fn put_failing_bars<W: Write>(
 )
     requires rows { until.now.number - until.now.skipped ≤ most_rows }
     requires more { until.now.more ≤ 13 }
-    ensures { Puts output.old output.new (failing_bars (kernel_of (option_copied ending)) until.now
+    ensures { Puts output.old output.new (failing_bars (kernel_of (option_copied ending.entry)) until.now
         (lasts_of lasting.now)) (W.contents writer.old) (W.contents writer.new) }
 {
     let first = first_failing(lasting);
