@@ -1,6 +1,6 @@
 -- How long failures last in a script is what the first lines of its head tell.
 use Rattle.std.specs.Prelude.{⊤}
-use Rattle.std.proofs.Common.{◌≡◌, ◌+◌, ℕ, Bool, true, false, cond, List, [], ◌∷◌, ◌++◌, Option, Some, None, Result, Ok, Err, refl, sym, ap, subst, ◌∙◌}
+use Rattle.std.proofs.Common.{◌≡◌, ◌+◌, ◌-◌, ℕ, length, take, Bool, true, false, cond, List, [], ◌∷◌, ◌++◌, Option, Some, None, Result, Ok, Err, refl, sym, ap, subst, ◌∙◌}
 use Rattle.std.specs.Prelude.{codes, drop, bytes_eq, not, if◌then◌else◌}
 use Rattle.std.specs.Option.{option_map}
 use Rattle.std.proofs.lemmas.Slice.Eq.{bytes_eq-Decides}
@@ -10,7 +10,7 @@ use Rattle.am_names.specs.{is_in_range}
 use Rattle.am_lines.specs.{words_of}
 use Rattle.am_map.specs.{Row}
 use Rattle.am_machine.specs.{Setup}
-use Rattle.am_script.specs.{ScriptFault, ScriptFaultKind, Told, is_long, are_skipped, limits_read, negative_read, Section, Part, Alone, Whole, Unended, Long, parts_in, parts_of_lines, part_by, with_line, is_end, are_only, map_name, Headed, Begins, Ends, Faulty, is_limits, is_negative, with_negative, limits_by, negative_by, negative_then, master_by, maps_read, head_of, begun_by, script_by, script_from, section_read}
+use Rattle.am_script.specs.{ScriptFault, ScriptFaultKind, Told, is_long, are_skipped, limits_read, negative_read, Section, Part, Alone, Whole, Unended, Long, parts_in, parts_of_lines, part_by, with_line, is_end, are_only, map_name, Headed, Begins, Ends, Faulty, is_limits, is_negative, with_negative, limits_by, negative_by, negative_then, master_by, maps_read, head_of, begun_by, script_by, script_from, script_of, section_read, broken, cut_line, lines_of, played}
 use Rattle.am_script.specs.Head.{Head, no_head, limits_then, maps_then, master_then, with_map, is_map}
 use Rattle.am_script.specs.Limits.{checked, limits_of}
 use Rattle.am_script.specs.Maps.{opening_with}
@@ -139,7 +139,7 @@ by_words words number head parts none = by (is_negative words)
 
 second : (head : Head) (before : ℕ) (lines : List (List ℕ)) → head.limits.negative ≡ 0 → SaysSo (negative_first (said lines)) (negative_then head (parts_in None before lines))
 second head before [] none = tt
-second head before (line ∷ lines) none = by (is_long line)
+second head before (line ∷ lines) none = by (second head (before + 1) lines none) (is_long line)
   where
     rest : List Part
     rest = parts_in None (before + 1) lines
@@ -154,13 +154,13 @@ second head before (line ∷ lines) none = by (is_long line)
         subst (λ (n : ℕ). SaysSo n (negative_then head (parts_in (Some section) (before + 1) lines))) (none ∙ sym (ap (λ (b : Bool). if b then or_none (negative_read (drop 1 (words_of line))) else 0) neither.negative))
         (negative_keeps head (parts_in (Some section) (before + 1) lines) (open_parts section (before + 1) lines))
 
-    skips : (b : Bool) → SaysSo (negative_first (if not b then words_of line ∷ said lines else said lines)) (negative_then head (if b then rest else opened (section_opened (before + 1) (words_of line))))
-    skips true = second head (before + 1) lines none
-    skips false = alone (section_opened (before + 1) (words_of line)) refl
+    skips : SaysSo (negative_first (said lines)) (negative_then head rest) → (b : Bool) → SaysSo (negative_first (if not b then words_of line ∷ said lines else said lines)) (negative_then head (if b then rest else opened (section_opened (before + 1) (words_of line))))
+    skips later true = later
+    skips later false = alone (section_opened (before + 1) (words_of line)) refl
 
-    by : (b : Bool) → SaysSo (negative_first (said (line ∷ lines))) (negative_then head (if b then Long (before + 1) ∷ [] else if are_skipped (words_of line) then rest else opened (section_opened (before + 1) (words_of line))))
-    by true = tt
-    by false = skips (are_skipped (words_of line))
+    by : SaysSo (negative_first (said lines)) (negative_then head rest) → (b : Bool) → SaysSo (negative_first (said (line ∷ lines))) (negative_then head (if b then Long (before + 1) ∷ [] else if are_skipped (words_of line) then rest else opened (section_opened (before + 1) (words_of line))))
+    by later true = tt
+    by later false = skips later (are_skipped (words_of line))
 
 checked_none : (limits own : Limits) → own.negative ≡ 0 → checked own ≡ Some limits → limits.negative ≡ 0
 checked_none limits own zero e = by (is_in_range own) refl
@@ -187,7 +187,7 @@ limits_none (a ∷ b ∷ c ∷ d ∷ words) limits e = absurd cc
 
 first : (before : ℕ) (lines : List (List ℕ)) → SaysSo (negative_in (said lines)) (limits_then no_head (parts_in None before lines))
 first before [] = tt
-first before (line ∷ lines) = by (is_long line)
+first before (line ∷ lines) = by (first (before + 1) lines) (is_long line)
   where
     rest : List Part
     rest = parts_in None (before + 1) lines
@@ -209,13 +209,13 @@ first before (line ∷ lines) = by (is_long line)
         subst (λ (n : ℕ). SaysSo n (limits_then no_head (parts_in (Some section) (before + 1) lines))) (sym (tells_none (words_of line) (said lines) (section_neither (before + 1) (words_of line) section e)))
         (limits_keep no_head (parts_in (Some section) (before + 1) lines) (open_parts section (before + 1) lines))
 
-    skips : (b : Bool) → SaysSo (negative_in (if not b then words_of line ∷ said lines else said lines)) (limits_then no_head (if b then rest else opened (section_opened (before + 1) (words_of line))))
-    skips true = first (before + 1) lines
-    skips false = alone (section_opened (before + 1) (words_of line)) refl
+    skips : SaysSo (negative_in (said lines)) (limits_then no_head rest) → (b : Bool) → SaysSo (negative_in (if not b then words_of line ∷ said lines else said lines)) (limits_then no_head (if b then rest else opened (section_opened (before + 1) (words_of line))))
+    skips later true = later
+    skips later false = alone (section_opened (before + 1) (words_of line)) refl
 
-    by : (b : Bool) → SaysSo (negative_in (said (line ∷ lines))) (limits_then no_head (if b then Long (before + 1) ∷ [] else if are_skipped (words_of line) then rest else opened (section_opened (before + 1) (words_of line))))
-    by true = tt
-    by false = skips (are_skipped (words_of line))
+    by : SaysSo (negative_in (said lines)) (limits_then no_head rest) → (b : Bool) → SaysSo (negative_in (said (line ∷ lines))) (limits_then no_head (if b then Long (before + 1) ∷ [] else if are_skipped (words_of line) then rest else opened (section_opened (before + 1) (words_of line))))
+    by later true = tt
+    by later false = skips later (are_skipped (words_of line))
 
 -- ---- the script
 
@@ -233,3 +233,19 @@ by_head n broke lines (Faulty fault) h = λ opening e. absurd cc
 -- failures last in the script of these lines as long as those tell
 pub last_for : (broke : Option ScriptFaultKind) (lines : List (List ℕ)) → LastFor (negative_in (said lines)) (script_from broke lines)
 last_for broke lines = by_head (negative_in (said lines)) broke lines (head_of (parts_of_lines lines)) (first 0 lines)
+
+-- so they do in a script of this text, which was read to its end
+pub of_whole : (broke : Option ScriptFaultKind) (text all : List ℕ) (n : ℕ) → broke ≡ None → text ≡ all → n ≡ negative_in (said (lines_of text)) → LastFor n (script_of broke all)
+of_whole broke text all n none same e =
+    subst (λ (b : Option ScriptFaultKind). LastFor n (script_of b all)) (sym none)
+    (subst (λ (m : ℕ). LastFor m (script_of None all)) (sym (e ∙ ap (λ (t : List ℕ). negative_in (said (lines_of t))) same))
+    (last_for None (lines_of all)))
+
+-- and in one that broke off, without the line that was cut
+pub of_cut : (broke : Option ScriptFaultKind) (kind : ScriptFaultKind) (text all cut : List ℕ) (n : ℕ) → broke ≡ Some kind → text ≡ all → cut ≡ cut_line text → n ≡ negative_in (said (lines_of (take (length text - length cut) text))) → LastFor n (script_of broke all)
+of_cut broke kind text all cut n some same e f =
+    let cut_is : take (length text - length cut) text ≡ played (Some kind) all =
+    ap (λ (c : List ℕ). take (length text - length c) text) e ∙ ap (λ (t : List ℕ). take (length t - length (cut_line t)) t) same in
+    subst (λ (b : Option ScriptFaultKind). LastFor n (script_of b all)) (sym some)
+    (subst (λ (m : ℕ). LastFor m (script_of (Some kind) all)) (sym (f ∙ ap (λ (t : List ℕ). negative_in (said (lines_of t))) cut_is))
+    (last_for (broken (Some kind) all) (lines_of (played (Some kind) all))))

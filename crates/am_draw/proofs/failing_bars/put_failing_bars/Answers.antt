@@ -21,3 +21,15 @@ loop-lane-preserved g c =
     subst (λ (text : List ℕ). Puts c.args.output.now c.put_failing_bar.new.output text (contents c.args.writer.now) (contents c.put_failing_bar.new.writer))
     (failing_bars_next negative ending c.args.until.now c.first_failing-first.result lanes c.loop-lane.lane c.lane_x-x.result c.lane_x-x.ensures.x)
     (puts_two _ _ _ _ _ _ _ _ c.loop-lane.invariant bar)
+
+pub returns : goal.returns
+returns g c =
+    let contents = g.W.Write.contents in
+    let lanes = c.as_slice-lanes.result.now in
+    let ending = kernel_of (option_copied c.args.ending) in
+    let negative = c.args.lasting.now.negative in
+    let done : c.loop-lane.lane ≡ length lanes = omega arith in
+    rw c.as_slice-lanes.ensures.value at
+    (rw c.first_failing-first.ensures.first at
+    (subst (λ (n : ℕ). Puts c.args.output.now c.loop-lane.output (failing_bars_in negative ending c.args.until.now c.first_failing-first.result lanes n) (contents c.args.writer.now) (contents c.loop-lane.writer)) done
+    c.loop-lane.invariant))

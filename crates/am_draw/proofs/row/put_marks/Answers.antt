@@ -15,3 +15,6 @@ returns-clause-marks g c =
     subst (λ (l : Lasts). Puts c.args.output.now c.put_word.new.output (living ++ (told_drawn c.args.trees.now.before.now k until l c.args.seen.now ++ (actor_marks (turned until.number k (seen_behind until.number l c.args.seen.now)) c.args.asked.now.event.now c.args.asked.now.went ++ codes "</g>\n"))) (contents c.args.writer.now) (contents c.put_word.new.writer)) c.act.ensures
     (subst (λ (l : Lasts). Puts c.args.output.now c.put_word.new.output (living ++ (told_drawn c.args.trees.now.before.now k until (lasts_of c.act.new.self) c.args.seen.now ++ (actor_marks l c.args.asked.now.event.now c.args.asked.now.went ++ codes "</g>\n"))) (contents c.args.writer.now) (contents c.put_word.new.writer)) c.put_told.ensures.lasts
     (puts_four _ _ _ _ _ _ _ _ _ _ _ _ _ _ c.put_living_bars.ensures c.put_told.ensures.drawn c.put_actor.ensures c.put_word.ensures))
+
+pub returns-clause-lasts : goal.returns-clause-lasts
+returns-clause-lasts g c = rw c.act.ensures at c.put_told.ensures.lasts

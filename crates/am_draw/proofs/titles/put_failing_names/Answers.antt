@@ -9,10 +9,10 @@ pub loop-lane-preserved : goal.loop-lane-preserved
 loop-lane-preserved g c =
     let contents = g.W.Write.contents in
     let named =
-    subst (λ (h : Option Failing). Puts c.loop-lane.output c.put_failing_name.new.output (failing_name h (c.lane_x.result + 5) c.name_y.result) (contents c.loop-lane.writer) (contents c.put_failing_name.new.writer))
+    subst (λ (h : Option Failing). Puts c.loop-lane.output c.put_failing_name.new.output (failing_name h (c.lane_x-x.result + 5) c.name_y.result) (contents c.loop-lane.writer) (contents c.put_failing_name.new.writer))
     c.failing_at.ensures c.put_failing_name.ensures in
     subst (λ (text : List ℕ). Puts c.args.output.now c.put_failing_name.new.output text (contents c.args.writer.now) (contents c.put_failing_name.new.writer))
-    (failing_next c.args.first c.args.lanes.now c.loop-lane.lane c.lane_x.result c.name_y.result c.lane_x.ensures.x c.name_y.ensures)
+    (failing_next c.args.first c.args.lanes.now c.loop-lane.lane c.lane_x-x.result c.name_y.result c.lane_x-x.ensures.x c.name_y.ensures)
     (puts_two _ _ _ _ _ _ _ _ c.loop-lane.invariant named)
 
 pub returns : goal.returns
