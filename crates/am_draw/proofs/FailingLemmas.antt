@@ -1,6 +1,6 @@
 -- Lanes of failures: as many as they come to are enough, and those that last have them.
-use Rattle.std.proofs.Common.{◌≡◌, ◌⊎◌, ℕ, zero, suc, ◌+◌, ◌-◌, ◌≤◌, Bool, true, false, List, [], ◌∷◌, ◌++◌, length, map, get_or, set, replicate, Option, None, Some, refl, sym, ap, subst, ◌∙◌, inl, inr, ⊎_elim, append_assoc, append-nil, arith, cond, ltb, if◌then◌else◌}
-use Rattle.std.specs.Prelude.{◌||◌, nat_lt, is_none}
+use Rattle.std.proofs.Common.{◌≡◌, ◌⊎◌, ℕ, zero, suc, ◌+◌, ◌-◌, ◌≤◌, Bool, true, false, List, [], ◌∷◌, ◌++◌, length, map, get_or, set, replicate, Option, None, Some, refl, sym, ap, subst, ◌∙◌, inl, inr, ⊎_elim, append_assoc, arith, cond, ltb, if◌then◌else◌}
+use Rattle.std.specs.Prelude.{◌||◌, is_none}
 use Rattle.std.specs.List.{list_any, position}
 use Rattle.std.specs.Option.{option_and_then}
 use Rattle.std.proofs.lemmas.Bool.{lt-ltb, ltb-true}
@@ -10,7 +10,7 @@ use Rattle.am_names.specs.{fail_no_numbered, fail_number, same_trigger}
 use Rattle.am_names.specs.declared.fail_no.FailNo.{FailNo}
 use Rattle.am_names.specs.declared.fail_no.FailNo.TheVariants.{ENOENT, EPERM, EBUSY, EEXIST, EINVAL, EAGAIN, ELOOP, ENAMETOOLONG, ENOSPC}
 use Rattle.am_names.specs.declared.trigger.Trigger.{Trigger}
-use Rattle.am_names.proofs.Basics.{and_of_both, both_of_and, equal_by_test, neither_of_or, or_left, or_right, some_injective}
+use Rattle.am_names.proofs.Basics.{and_of_both, both_of_and, equal_by_test, or_left, or_right, some_injective}
 use Rattle.am_names.proofs.SameTriggers.{equal_by_same_trigger, same_trigger_itself}
 use Rattle.std.proofs.lemmas.Bool.{eq-eqb}
 use Rattle.am_kernel.specs.{KernelState}

@@ -1,8 +1,7 @@
 -- How long failures last in a script is what the first lines of its head tell.
 use Rattle.std.specs.Prelude.{⊤}
-use Rattle.std.proofs.Common.{◌≡◌, ◌+◌, ◌-◌, ℕ, length, take, Bool, true, false, cond, List, [], ◌∷◌, ◌++◌, Option, Some, None, Result, Ok, Err, refl, sym, ap, subst, ◌∙◌}
+use Rattle.std.proofs.Common.{◌≡◌, ◌+◌, ◌-◌, ℕ, length, take, Bool, true, false, cond, List, [], ◌∷◌, Option, Some, None, Result, Ok, Err, refl, sym, ap, subst, ◌∙◌}
 use Rattle.std.specs.Prelude.{codes, drop, bytes_eq, not, if◌then◌else◌}
-use Rattle.std.specs.Option.{option_map}
 use Rattle.std.proofs.lemmas.Slice.Eq.{bytes_eq-Decides}
 use Rattle.am_names.proofs.Basics.{some_injective}
 use Rattle.am_names.specs.declared.limits.Limits.{Limits}
@@ -10,7 +9,7 @@ use Rattle.am_names.specs.{is_in_range}
 use Rattle.am_lines.specs.{words_of}
 use Rattle.am_map.specs.{Row}
 use Rattle.am_machine.specs.{Setup}
-use Rattle.am_script.specs.{ScriptFault, ScriptFaultKind, Told, is_long, are_skipped, limits_read, negative_read, Section, Part, Alone, Whole, Unended, Long, parts_in, parts_of_lines, part_by, with_line, is_end, are_only, map_name, Headed, Begins, Ends, Faulty, is_limits, is_negative, with_negative, limits_by, negative_by, negative_then, master_by, maps_read, head_of, begun_by, script_by, script_from, script_of, section_read, broken, cut_line, lines_of, played}
+use Rattle.am_script.specs.{ScriptFault, ScriptFaultKind, Told, is_long, are_skipped, limits_read, negative_read, Section, Part, Alone, Whole, Unended, Long, parts_in, parts_of_lines, part_by, with_line, is_end, are_only, Headed, Begins, Ends, Faulty, is_limits, is_negative, with_negative, limits_by, negative_by, negative_then, master_by, maps_read, head_of, begun_by, script_by, script_from, script_of, section_read, broken, cut_line, lines_of, played}
 use Rattle.am_script.specs.Head.{Head, no_head, limits_then, maps_then, master_then, with_map, is_map}
 use Rattle.am_script.specs.Limits.{checked, limits_of}
 use Rattle.am_script.specs.Maps.{opening_with}

@@ -3,7 +3,7 @@
 use Rattle.std.specs.Prelude.{◌≡◌, ℕ, not, List, [], ◌∷◌, map, filter, drop, Option, None, Some, if◌then◌else◌}
 use Rattle.am_lines.specs.{words_of}
 use Rattle.am_machine.specs.{Setup}
-use Rattle.am_script.specs.{are_skipped, is_limits, is_negative, negative_read, script_of}
+use Rattle.am_script.specs.{are_skipped, is_limits, is_negative, negative_read}
 use Rattle.am_script.specs.Script.{Script}
 
 -- the words of the lines that aren't skipped

@@ -1,5 +1,5 @@
 -- The row of an event: own choice (docs/FORMATS.md, "Pictures").
-use Rattle.std.specs.Prelude.{ℕ, ◌+◌, ◌-◌, ◌*◌, List, [], ◌∷◌, ◌++◌, codes, decimal, Option, None, Some}
+use Rattle.std.specs.Prelude.{ℕ, ◌+◌, ◌-◌, ◌*◌, List, [], ◌∷◌, ◌++◌, codes, decimal, Option}
 use Rattle.am_kernel.specs.{KernelState}
 use Rattle.am_names.specs.{MountRow, Status, errno_of, fail_number}
 use Rattle.am_names.specs.declared.trigger.Trigger.{Trigger}

@@ -115,13 +115,7 @@ fn put_short_words<W: Write>(output: &mut Output, trigger: &Trigger, writer: &mu
 }
 
 #[tactic(auto, using(am_script::proofs::Pieces::puts_three))]
-fn put_short_label<W: Write>(
-    output: &mut Output,
-    trigger: &Trigger,
-    x: u64,
-    y: u64,
-    writer: &mut W,
-)
+fn put_short_label<W: Write>(output: &mut Output, trigger: &Trigger, x: u64, y: u64, writer: &mut W)
     ensures { Puts output.old output.new (label (codes "s failed") x y
         (short_words trigger.now.fs trigger.now.name)) (W.contents writer.old)
         (W.contents writer.new) }

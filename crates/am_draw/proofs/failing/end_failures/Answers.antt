@@ -1,4 +1,4 @@
-use Rattle.std.proofs.Common.{◌≡◌, ◌<◌, ◌+◌, ◌++◌, List, Option, length, take, drop, map, set, subst, sym}
+use Rattle.std.proofs.Common.{◌<◌, List, Option, length, subst}
 use Rattle.std.proofs.lemmas.List.Edits.{map_over_more}
 use Rattle.am_draw.specs.{Failing, kept_failing}
 use Rattle.am_draw.proofs.failing.end_failures.Goals as goal
