@@ -6,9 +6,10 @@ usage: tools/bars.py [FILE..]    those of these scripts; without them of all scr
 
 In the row of each event stands, just below its middle, a bar in the lane of each walker that waits in the world which
 the script leaves behind that event, one for each that is inside of a mount, and one for each open token, as `world`
-tells them, and no other; so it is of each autofs that is mounted somewhere and catatonic. Who stands in a lane is told
-where the bar begins. While the daemon is drawn dead, it holds no attachment. No two bars of a lane overlap, and no bar
-stands beside the lanes of its kind. The last line counts the scripts.
+tells them, and no other; so it is of each autofs that is mounted somewhere and catatonic, and of each failure that lasts
+at the latest moment, by the seconds that the head tells. Who stands in a lane is told where the bar begins, as is of
+which trigger a failure is, with which error, and until when. While the daemon is drawn dead, it holds no attachment. No
+two bars of a lane overlap, and no bar stands beside the lanes of its kind. The last line counts the scripts.
 """
 
 import glob
@@ -24,7 +25,8 @@ TOP, ROW, MIDDLE = 118, 26, 13
 TITLES = 40
 # What is told of a row is probed so far below its middle, where the bars have begun.
 BELOW = 11
-KINDS = ("waits", "inside", "missing", "expire", "mode", "dead")
+KINDS = ("waits", "inside", "missing", "expire", "mode", "dead", "lasting")
+ERRORS = ("ENOENT", "EPERM", "EBUSY", "EEXIST", "EINVAL", "EAGAIN", "ELOOP", "ENAMETOOLONG", "ENOSPC")
 
 
 def played(program, command, script):
@@ -41,13 +43,34 @@ def cut_behind_each(script):
             yield b"\n".join(lines[:at + 1]) + b"\n"
 
 
-def busy_in(world):
-    """Who waits, who is inside, and which tokens are open, by what a world prints."""
+def seconds_of(script):
+    """For how many seconds failures last."""
+    found = re.search(rb"^[ \t]*negative[ \t]+(\d+)[ \t]*$", script.split(b"\nevents")[0], re.M)
+    return int(found[1]) if found else 0
+
+
+def shown(name):
+    """A name as a picture shows it, cut in its middle where it is long."""
+    return name if len(name) <= 12 else f"{name[:6]}...{name[-6:]}"
+
+
+def lasting_in(world, negative):
+    """What a picture says of each failure that lasts."""
+    latest = int(re.search(r"^# latest (\d+)$", world, re.M)[1])
+    for error, at, fs, name in re.findall(r"^# fail ?(\d*) at (\d+) fs (\d+) (?:direct|name (.*))$", world, re.M):
+        end = int(at) + negative
+        if latest < end:
+            until = f" until {end}" if end < 1 << 64 else ""
+            yield f"{shown(name) or f'file system {fs}'} {ERRORS[int(error or 1) - 1]}{until}"
+
+
+def busy_in(world, negative):
+    """Who waits, who is inside, which tokens are open, who is catatonic and what failed, by what a world prints."""
     waits = {int(it) for found in re.findall(r"^# open \d+ waiters ((?:\d+ )*)fs", world, re.M) for it in found.split()}
     inside = {int(it) for it in re.findall(r"^# entered (\d+) mount", world, re.M)}
     tokens = {int(it) for it in re.findall(r"^# open (\d+) ", world, re.M)}
     systems = {int(it) for it in re.findall(r"^\d+ \d+ 0:(\d+) .* - autofs \S+ \S*\bfd=-1,", world, re.M)}
-    return waits, inside, tokens, systems
+    return waits, inside, tokens, systems, set(lasting_in(world, negative))
 
 
 def rows_of(root):
@@ -68,6 +91,8 @@ def numbers_of(rows):
                 found["walker", x + 8, y] = int(text.text)
             if text.get("class") == "k":
                 found["token", x, y] = int(text.text)
+            if text.get("class") == "s failed":
+                found["lasting", x - 8, y] = text.text
             catatonic = re.fullmatch(r"file system (\d+) is catatonic", text.text or "")
             if catatonic:
                 found["system", y + 10] = int(catatonic[1])
@@ -80,6 +105,8 @@ def named_in(numbers, kind, x, begin):
         return 0
     if kind == "mode":
         return numbers.get(("system", begin))
+    if kind == "lasting":
+        return numbers.get(("lasting", x, begin))
     return numbers.get(("token", x, begin) if kind in KINDS[2:4] else ("walker", x, begin - 6))
 
 
@@ -100,6 +127,7 @@ def bars_of(root):
 def faults_of(program, script):
     """What isn't so of a script's picture."""
     bars = list(bars_of(tree.fromstring(played(program, "draw", script))))
+    negative = seconds_of(script)
     for at, one in enumerate(bars):
         if one[1] is None:
             yield f"nobody is told of where a bar begins: {one}"
@@ -110,11 +138,12 @@ def faults_of(program, script):
         probe = TOP + ROW * (number + number // TITLES) + MIDDLE + BELOW
         here = [it for it in bars if it[3] <= probe < it[4]]
         drawn = tuple(sorted(it[1] or 0 for it in here if it[0] in kinds)
-                      for kinds in (KINDS[:1], KINDS[1:2], KINDS[2:4], KINDS[4:5]))
+                      for kinds in (KINDS[:1], KINDS[1:2], KINDS[2:4], KINDS[4:5], KINDS[6:]))
         world = played(program, "world", part)
-        there = tuple(sorted(it) for it in busy_in(world))
+        there = tuple(sorted(it) for it in busy_in(world, negative))
         if drawn != there:
-            yield f"behind event {number + 1} waiters, walkers inside, tokens and catatonic are {there}, and drawn are {drawn}"
+            yield f"behind event {number + 1} waiters, walkers inside, tokens, catatonic and failures are {there}, " \
+                f"and drawn are {drawn}"
         if any(it[0] == "dead" for it in here) and "\n# held " in world:
             yield f"behind event {number + 1} the daemon holds an attachment, and it is drawn as dead"
 

@@ -28,14 +28,14 @@ added_next n lasts now room next seen i obs inside item is has new =
 
 -- ---- one event more
 
-pub lasting_push : (part : Part) (number : ℕ) (lasts : Lasts) (rows : List Viewed) (row : Viewed) → lasts_behind part number lasts (rows ++ row ∷ []) ≡ next_lasts part (number + length rows) (lasts_behind part number lasts rows) row.asked.event row.seen
+pub lasting_push : (part : Part) (number : ℕ) (lasts : Lasts) (rows : List Viewed) (row : Viewed) → lasts_behind part number lasts (rows ++ row ∷ []) ≡ next_lasts part (number + length rows) (lasts_behind part number lasts rows) row.asked.event row.seen row.after
 lasting_push part number lasts [] row = rw add-zero refl
 lasting_push part number lasts (first ∷ rows) row =
-    lasting_push part (number + 1) (next_lasts part number lasts first.asked.event first.seen) rows row
-    ∙ ap (λ (n : ℕ). next_lasts part n (lasts_behind part (number + 1) (next_lasts part number lasts first.asked.event first.seen) rows) row.asked.event row.seen) (omega arith)
+    lasting_push part (number + 1) (next_lasts part number lasts first.asked.event first.seen first.after) rows row
+    ∙ ap (λ (n : ℕ). next_lasts part n (lasts_behind part (number + 1) (next_lasts part number lasts first.asked.event first.seen first.after) rows) row.asked.event row.seen row.after) (omega arith)
 
-pub lanes_push : (number : ℕ) (lasts : Lasts) (rows : List Viewed) (row : Viewed) → added_behind number lasts (rows ++ row ∷ []) ≡ added (number + length rows) (added_behind number lasts rows) row.asked.event row.seen
+pub lanes_push : (number : ℕ) (lasts : Lasts) (rows : List Viewed) (row : Viewed) → added_behind number lasts (rows ++ row ∷ []) ≡ added (number + length rows) (added_behind number lasts rows) row.asked.event row.seen row.after
 lanes_push number lasts [] row = rw add-zero refl
 lanes_push number lasts (first ∷ rows) row =
-    lanes_push (number + 1) (added number lasts first.asked.event first.seen) rows row
-    ∙ ap (λ (n : ℕ). added n (added_behind (number + 1) (added number lasts first.asked.event first.seen) rows) row.asked.event row.seen) (omega arith)
+    lanes_push (number + 1) (added number lasts first.asked.event first.seen first.after) rows row
+    ∙ ap (λ (n : ℕ). added n (added_behind (number + 1) (added number lasts first.asked.event first.seen first.after) rows) row.asked.event row.seen row.after) (omega arith)

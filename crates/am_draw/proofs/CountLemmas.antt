@@ -4,8 +4,9 @@ use Rattle.std.proofs.lemmas.List.{length-append}
 use Rattle.am_machine.specs.State.{State}
 use Rattle.am_script.specs.{ScriptFault, ScriptFaultKind, fault_at, NoNext, Numbered, Told, told_by, only_fault, behind}
 use Rattle.am_script.specs.declared.fault.ScriptFaultKind.TheVariants as kinds
-use Rattle.am_draw.specs.{IsAtEvent, IsCounted, IsSizeOf, Lasts, NotCounted, Size, Viewed, ViewedRun, added, asked_in, counted_to, lanes_for, nothing_lasts}
+use Rattle.am_draw.specs.{IsAtEvent, IsCounted, IsSizeOf, Lasts, NotCounted, Size, Viewed, ViewedRun, added, asked_in, counted_to, lanes_for, nothing_lasts, size_of}
 use Rattle.am_draw.proofs.BarLemmas.{lanes_push}
+use Rattle.am_draw.proofs.ChangeLemmas.{lanes_last}
 use Rattle.am_draw.proofs.RunLemmas.{asked_push, run_more}
 
 -- so many events, and these lanes
@@ -16,6 +17,8 @@ sized events lasts = record {
   tokens = length lasts.tokens;
   systems = length lasts.systems;
   daemon = length lasts.daemon;
+  failures = length lasts.failures;
+  negative = lasts.negative;
 }
 
 -- of all events these are left, and those before are counted
@@ -24,9 +27,9 @@ pub record Counting (start : State) (all left : Told) (events : ℕ) (lasts : La
   pub parted : all ≡ behind (asked_in rows) left
   pub run : ViewedRun start rows now
   pub counted : events ≡ length rows
-  pub adds : lasts ≡ lanes_for rows
+  pub adds : lasts ≡ lanes_for start rows
 
-pub counting_none : (start : State) (all : Told) (lasts : Lasts) → lasts ≡ nothing_lasts 0 0 0 0 → Counting start all all 0 lasts start
+pub counting_none : (start : State) (all : Told) (lasts : Lasts) → lasts ≡ nothing_lasts 0 0 0 0 0 start.kernel.negative → Counting start all all 0 lasts start
 counting_none start all lasts e = record { rows = []; parted = refl; run = refl; counted = refl; adds = e }
 
 pub counting_more : (start : State) (all left more : Told) (events number : ℕ) (lasts next_lasts : Lasts) (s next : State) (asked : Numbered) → number ≡ events + 1 → left ≡ told_by (Ok (Some asked.event)) asked.line more → IsCounted number s asked next lasts next_lasts → Counting start all left events lasts s → Counting start all more (events + 1) next_lasts next
@@ -40,9 +43,9 @@ counting_more start all left more events number lasts next_lasts s next asked n 
       counted = rw (length-append h.rows (row ∷ [])) (ap (λ (n : ℕ). n + 1) h.counted);
       adds =
           counted.adds
-          ∙ ap (λ (n : ℕ). added n lasts row.asked.event row.seen) is
-          ∙ ap (λ (l : Lasts). added (1 + length h.rows) l row.asked.event row.seen) h.adds
-          ∙ sym (lanes_push 1 (nothing_lasts 0 0 0 0) h.rows row);
+          ∙ ap (λ (n : ℕ). added n lasts row.asked.event row.seen row.after) is
+          ∙ ap (λ (l : Lasts). added (1 + length h.rows) l row.asked.event row.seen row.after) h.adds
+          ∙ sym (lanes_push 1 (nothing_lasts 0 0 0 0 0 start.kernel.negative) h.rows row);
     }
 
 -- all are counted
@@ -52,7 +55,10 @@ counting_ends start all fault left events lasts now e h = record {
   asked = ap (λ (t : Told). t.events) (h.parted ∙ ap (behind (asked_in h.rows)) e) ∙ append-nil (asked_in h.rows);
   ends = now;
   run = h.run;
-  counted = ap (λ (n : ℕ). sized n lasts) h.counted ∙ ap (sized (length h.rows)) h.adds;
+  counted =
+      ap (λ (n : ℕ). sized n lasts) h.counted
+      ∙ ap (sized (length h.rows)) h.adds
+      ∙ ap (λ (n : ℕ). record (size_of start h.rows) { negative = n }) (lanes_last start h.rows);
 }
 
 fault_place : (start : State) (all left : Told) (events : ℕ) (lasts : Lasts) (now : State) (fault : ScriptFault) → Counting start all left events lasts now → NoNext left fault → (all.fault ≡ Some fault) ⊎ IsAtEvent all fault

@@ -1,5 +1,5 @@
 -- What is drawn of a whole script that is read.
-use Rattle.std.proofs.Common.{◌≡◌, ℕ, List, length, Option, Some, None, Result, Ok, Err, OnOk, IfOk, IfErr, IfNone, IfSome, refl, sym, ◌∙◌, subst, inl, inr}
+use Rattle.std.proofs.Common.{◌≡◌, ℕ, List, length, Option, Some, None, Result, Ok, Err, OnOk, IfOk, IfErr, IfNone, IfSome, refl, sym, ap, ◌∙◌, subst, inl, inr}
 use Rattle.std.proofs.KnownBytes.{Appends-nil}
 use Rattle.std.specs.Io.KnownBytes.{Consumes, IsAtEnd}
 use Rattle.am_machine.specs.State.{State}
@@ -9,6 +9,7 @@ use Rattle.am_script.specs.declared.visit.Opened.{Opened}
 use Rattle.am_script.specs.Script.{Script}
 use Rattle.am_views.proofs.WholeInputs.{was_read, head_stops, told_in}
 use Rattle.am_draw.specs.{AllDrawn, DrawStops, DrawnFrom, DrawsFrom, DrawsInput, IsSizeOf, IsSizeOfScript, NotCounted, NothingEnds, NothingStops, Size, StopsDrawing}
+use Rattle.am_draw.specs.HeadNegative.{LastFor}
 use Rattle.am_world.specs.Capacity.{state_of}
 
 -- ---- what was read
@@ -91,3 +92,10 @@ from_opened first last wo wn text broke opened (Err fault) h whole all stops = i
       subst (λ (s : State). DrawStops first last s (script_of broke text).told wo wn fault) h.world
       (subst (λ (t : Told). DrawStops first last (state_of opened.world) t wo wn fault) (sym h.told) stops);
 }))
+
+-- ---- how long failures last
+
+-- as the head of the script tells
+pub opened_negative : (text : List ℕ) (broke : Option ScriptFaultKind) (opened : Opened) (negative : ℕ) → OpenedAs (broken broke text) (script_of broke text) (Some opened) → LastFor negative (script_of broke text) → (state_of opened.world).kernel.negative ≡ negative
+opened_negative text broke opened negative h last =
+    ap (λ (s : State). s.kernel.negative) h.world ∙ sym (last (setup_of (state_of opened.world)) h.opening)

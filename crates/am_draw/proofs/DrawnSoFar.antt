@@ -59,8 +59,8 @@ drawing_more part start all left more lasting next_lasting kept keeps old mid ne
       stands = subst (λ (t : List Owed). Stands keeps t old new) (sym (owed_push part h.rows row number lasting is h.lasts)) (drawn.puts (owed_for (event_pieces part 1 (first_lasts part) h.rows)) old h.stands);
       lasts =
           drawn.lasts
-          ∙ ap (λ (n : ℕ). next_lasts part n lasting row.asked.event row.seen) is
-          ∙ ap (λ (l : Lasts). next_lasts part (1 + length h.rows) l row.asked.event row.seen) h.lasts
+          ∙ ap (λ (n : ℕ). next_lasts part n lasting row.asked.event row.seen row.after) is
+          ∙ ap (λ (l : Lasts). next_lasts part (1 + length h.rows) l row.asked.event row.seen row.after) h.lasts
           ∙ sym (lasting_push part 1 (first_lasts part) h.rows row);
       line = subst (λ (n : ℕ). EndsAt n (h.rows ++ row ∷ [])) (sym drawn.line) (ends_push h.rows row);
       lines = rw (length-append h.rows (row ∷ [])) (ap (λ (n : ℕ). n + 1) h.lines);

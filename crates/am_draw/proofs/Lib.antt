@@ -4,7 +4,10 @@ pub mod CountLemmas
 pub mod DrawInputs
 pub mod DrawnSoFar
 pub mod Draws
+pub mod FailingLemmas
 pub mod LostPieces
+pub mod NegativeLemmas
+pub mod NewestLemmas
 pub mod NothingLemmas
 pub mod PieceLemmas
 pub mod RowLemmas

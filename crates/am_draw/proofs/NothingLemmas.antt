@@ -1,5 +1,5 @@
 -- Where there is no event, the picture says so.
-use Rattle.std.proofs.Common.{◌≡◌, ◌⊎◌, ℕ, List, [], ◌∷◌, ◌++◌, Option, None, Result, Ok, Err, refl, sym, ap, ◌∙◌, subst, ⊎_elim, append-nil}
+use Rattle.std.proofs.Common.{◌≡◌, ℕ, List, [], ◌∷◌, ◌++◌, Option, None, Result, Ok, refl, sym, ap, ◌∙◌, subst, ⊎_elim, append-nil}
 use Rattle.std.specs.Io.KnownBytes.{Appends}
 use Rattle.am_script.specs.{Closes, IsShort, IsWhole, Output, Owed, Puts, ScriptFault, Stands, Summary, bytes_of, fault_at, owed_by, without_world}
 use Rattle.am_script.specs.declared.fault.ScriptFaultKind.TheVariants.{WriteFailed}

@@ -1,5 +1,5 @@
 -- One event more is drawn.
-use Rattle.std.proofs.Common.{◌≡◌, ℕ, suc, ◌+◌, List, [], ◌∷◌, ◌++◌, length, refl, sym, ap, ◌∙◌, add-zero, arith, if◌then◌else◌}
+use Rattle.std.proofs.Common.{◌≡◌, ℕ, suc, ◌+◌, List, [], ◌∷◌, ◌++◌, length, refl, sym, ap, ◌∙◌, arith, if◌then◌else◌}
 use Rattle.std.specs.Prelude.{nat_lt}
 use Rattle.std.proofs.lemmas.Bool.{lt-ltb}
 use Rattle.am_script.specs.{owed_by}
@@ -12,8 +12,8 @@ pieces_push part number lasts [] row =
     ap (λ (n : ℕ). event_piece part n lasts row ∷ []) is
 pieces_push part number lasts (first ∷ rows) row =
     ap (λ (t : List Piece). event_piece part number lasts first ∷ t)
-    (pieces_push part (number + 1) (next_lasts part number lasts first.asked.event first.seen) rows row
-    ∙ ap (λ (n : ℕ). event_pieces part (number + 1) (next_lasts part number lasts first.asked.event first.seen) rows ++ event_piece part n (lasts_behind part (number + 1) (next_lasts part number lasts first.asked.event first.seen) rows) row ∷ []) (omega arith))
+    (pieces_push part (number + 1) (next_lasts part number lasts first.asked.event first.seen first.after) rows row
+    ∙ ap (λ (n : ℕ). event_pieces part (number + 1) (next_lasts part number lasts first.asked.event first.seen first.after) rows ++ event_piece part n (lasts_behind part (number + 1) (next_lasts part number lasts first.asked.event first.seen first.after) rows) row ∷ []) (omega arith))
 
 -- the last of these events is of this line, and where there is none it is the first
 abbrev pub EndsAt : ℕ → List Viewed → Type 0

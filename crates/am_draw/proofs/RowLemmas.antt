@@ -3,8 +3,10 @@ use Rattle.std.proofs.Common.{◌≡◌, ◌<◌, ◌≤◌, ℕ, zero, suc, ◌
 use Rattle.std.proofs.lemmas.List.{take_more}
 use Rattle.std.proofs.Math.Seq.{take-length}
 use Rattle.am_names.specs.{MountRow}
+use Rattle.am_kernel.specs.{KernelState}
 use Rattle.am_state.specs.{Obs}
-use Rattle.am_draw.specs.{Ending, Holder, LaneKind, Lasts, Until, changed, seen_behind, lane_x, bar, ends_lane, IsNextEnding, lane_bar, lane_bars, obs_drawn, seen_drawn}
+use Rattle.am_draw.specs.declared.marks.LaneKind.TheVariants.{Narrow}
+use Rattle.am_draw.specs.{Ending, Failing, Holder, LaneKind, Lasts, Until, changed, failing_bar, failing_bars_in, seen_behind, lane_x, bar, ends_lane, IsNextEnding, lane_bar, lane_bars, obs_drawn, seen_drawn}
 
 bars_push : (lanes : LaneKind) (walkers : ℕ) (ending : Ending) (until : Until) (number : ℕ) (before : List (Option Holder)) (lane : Option Holder) → lane_bars lanes walkers ending until number (before ++ lane ∷ []) ≡ lane_bars lanes walkers ending until number before ++ lane_bar ending until lane (lane_x lanes walkers (number + length before))
 bars_push lanes walkers ending until number [] lane =
@@ -59,17 +61,24 @@ bars_done kind walkers ending until lanes from le none =
     sym (passed_to kind walkers ending until lanes from (length lanes) le (omega arith) none)
     ∙ ap (lane_bars kind walkers ending until 0) (take-length lanes)
 
-drawn_push : (before after : List MountRow) (until : Until) (lasts : Lasts) (seen : List Obs) (obs : Obs) → seen_drawn before after until lasts (seen ++ obs ∷ []) ≡ seen_drawn before after until lasts seen ++ obs_drawn before after until (seen_behind until.number lasts seen) obs
+-- the bar of a failure in one lane more is drawn, if it ends
+pub failing_bars_next : (negative : ℕ) (ending : Option KernelState) (until : Until) (first : ℕ) (lanes : List (Option Failing)) (n x : ℕ) → x ≡ lane_x Narrow first n → failing_bars_in negative ending until first lanes n ++ failing_bar negative ending until (get_or lanes n None) x ≡ failing_bars_in negative ending until first lanes (n + 1)
+failing_bars_next negative ending until first lanes n x at =
+    let is : suc n ≡ n + 1 = omega arith in
+    ap (λ (m : ℕ). failing_bars_in negative ending until first lanes n ++ failing_bar negative ending until (get_or lanes n None) m) at
+    ∙ ap (failing_bars_in negative ending until first lanes) is
+
+drawn_push : (before : List MountRow) (after : KernelState) (until : Until) (lasts : Lasts) (seen : List Obs) (obs : Obs) → seen_drawn before after until lasts (seen ++ obs ∷ []) ≡ seen_drawn before after until lasts seen ++ obs_drawn before after until (seen_behind until.number lasts seen) obs
 drawn_push before after until lasts [] obs = append-nil (obs_drawn before after until lasts obs)
 drawn_push before after until lasts (first ∷ seen) obs =
     ap (λ (t : List ℕ). obs_drawn before after until lasts first ++ t) (drawn_push before after until (changed until.number lasts first) seen obs)
     ∙ sym (append_assoc (obs_drawn before after until lasts first) (seen_drawn before after until (changed until.number lasts first) seen) (obs_drawn before after until (seen_behind until.number (changed until.number lasts first) seen) obs))
 
-drawn_more : (before after : List MountRow) (until : Until) (lasts : Lasts) (seen : List Obs) (i : ℕ) (obs : Obs) → i < length seen → seen_drawn before after until lasts (take (i + 1) seen) ≡ seen_drawn before after until lasts (take i seen) ++ obs_drawn before after until (seen_behind until.number lasts (take i seen)) (get_or seen i obs)
+drawn_more : (before : List MountRow) (after : KernelState) (until : Until) (lasts : Lasts) (seen : List Obs) (i : ℕ) (obs : Obs) → i < length seen → seen_drawn before after until lasts (take (i + 1) seen) ≡ seen_drawn before after until lasts (take i seen) ++ obs_drawn before after until (seen_behind until.number lasts (take i seen)) (get_or seen i obs)
 drawn_more before after until lasts seen i obs inside =
     ap (seen_drawn before after until lasts) (take_more seen i obs inside) ∙ drawn_push before after until lasts (take i seen) (get_or seen i obs)
 
-pub drawn_next : (before after : List MountRow) (until : Until) (lasts now : Lasts) (seen : List Obs) (i : ℕ) (obs : Obs) → i < length seen → obs ≡ get_or seen i obs → now ≡ seen_behind until.number lasts (take i seen) → seen_drawn before after until lasts (take i seen) ++ obs_drawn before after until now obs ≡ seen_drawn before after until lasts (take (i + 1) seen)
+pub drawn_next : (before : List MountRow) (after : KernelState) (until : Until) (lasts now : Lasts) (seen : List Obs) (i : ℕ) (obs : Obs) → i < length seen → obs ≡ get_or seen i obs → now ≡ seen_behind until.number lasts (take i seen) → seen_drawn before after until lasts (take i seen) ++ obs_drawn before after until now obs ≡ seen_drawn before after until lasts (take (i + 1) seen)
 drawn_next before after until lasts now seen i obs inside item is =
     ap (λ (l : Lasts). seen_drawn before after until lasts (take i seen) ++ obs_drawn before after until l obs) is
     ∙ ap (λ (o : Obs). seen_drawn before after until lasts (take i seen) ++ obs_drawn before after until (seen_behind until.number lasts (take i seen)) o) item

@@ -185,5 +185,6 @@ bars_tell_the_world part opening ends now all rows left whole run first size pas
     record {
       tokens = have_so _ _ (token_bar now) (λ token. told.tokens token ∙ token_is opening told.done told.answers now token told.run) seen_bars.tokens;
       walkers = have_so _ _ (walker_bar now) told.walkers seen_bars.walkers;
+      failures = seen_bars.failures refl;
       apart = told.apart;
     }

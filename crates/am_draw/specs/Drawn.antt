@@ -4,6 +4,7 @@ use Rattle.std.specs.Prelude.{◌≡◌, ◌⊎◌, ◌<◌, ℕ, ◌+◌, ◌==
 use Rattle.std.specs.List.{flat_map}
 use Rattle.std.specs.Io.KnownBytes.{Appends, Consumes, IsAtEnd}
 use Rattle.am_names.specs.{MountRow}
+use Rattle.am_kernel.specs.{KernelState}
 use Rattle.am_machine.specs.State.{State}
 use Rattle.am_machine.specs.{Setup, initial_state_of, Answer, Event, Step}
 use Rattle.am_machine.specs.declared.answer.Answer.TheVariants.{Refused}
@@ -24,13 +25,13 @@ use Rattle.am_draw.specs.Trees.{rows_before}
 -- ---- a run with its mounts
 
 -- an event of a script, its answer, what is seen of it, the mounts before it, if some may go in it,
--- and those behind it
+-- and the kernel behind it
 pub record Viewed : Type 0 where
   pub asked : Numbered
   pub answer : Answer
   pub seen : List Obs
   pub before : List MountRow
-  pub after : List MountRow
+  pub after : KernelState
 
 -- the events of these rows
 abbrev pub asked_in : List Viewed → List Numbered
@@ -45,13 +46,13 @@ abbrev pub is_out_of_memory : Answer → Bool
 is_out_of_memory (Refused errnos.NoMemory) = true
 is_out_of_memory answer = false
 
--- the event comes, with its answer and what is seen of it, between these mounts; it isn't refused for
--- want of memory
+-- the event comes, with its answer and what is seen of it, behind these mounts, and leaves this kernel;
+-- it isn't refused for want of memory
 pub record Views (old : State) (row : Viewed) (new : State) : Type 0 where
   pub step : Step old row.asked.event row.answer row.seen new
   pub has_room : is_out_of_memory row.answer ≡ false
   pub before : row.before ≡ rows_before old row.asked.event
-  pub after : row.after ≡ new.kernel.table.rows
+  pub after : row.after ≡ new.kernel
 
 -- from old, these events come one after another, and lead to new
 abbrev pub ViewedRun : State → List Viewed → State → Type 0
@@ -65,20 +66,22 @@ ViewedRun old (row ∷ rows) new = (mid : State) × Views old row mid × ViewedR
 abbrev pub added_behind : ℕ → Lasts → List Viewed → Lasts
 added_behind number lasts [] = lasts
 added_behind number lasts (row ∷ rows) =
-    added_behind (number + 1) (added number lasts row.asked.event row.seen) rows
+    added_behind (number + 1) (added number lasts row.asked.event row.seen row.after) rows
 
--- the lanes that these events come to, from none
-abbrev pub lanes_for : List Viewed → Lasts
-lanes_for rows = added_behind 1 (nothing_lasts 0 0 0 0) rows
+-- the lanes that these events come to from this state on, from none
+abbrev pub lanes_for : State → List Viewed → Lasts
+lanes_for start rows = added_behind 1 (nothing_lasts 0 0 0 0 0 start.kernel.negative) rows
 
--- how many events there are, and how many lanes they come to
-abbrev pub size_of : List Viewed → Size
-size_of rows = record {
+-- how many events there are, how many lanes they come to, and how long failures last
+abbrev pub size_of : State → List Viewed → Size
+size_of start rows = record {
   events = length rows;
-  walkers = length (lanes_for rows).walkers;
-  tokens = length (lanes_for rows).tokens;
-  systems = length (lanes_for rows).systems;
-  daemon = length (lanes_for rows).daemon;
+  walkers = length (lanes_for start rows).walkers;
+  tokens = length (lanes_for start rows).tokens;
+  systems = length (lanes_for start rows).systems;
+  daemon = length (lanes_for start rows).daemon;
+  failures = length (lanes_for start rows).failures;
+  negative = start.kernel.negative;
 }
 
 -- a run of all events of the script has this size
@@ -87,12 +90,12 @@ pub record IsSizeOf (start : State) (told : Told) (size : Size) : Type 0 where
   pub asked : told.events ≡ asked_in all
   pub ends : State
   pub run : ViewedRun start all ends
-  pub counted : size ≡ size_of all
+  pub counted : size ≡ size_of start all
 
 -- ---- what is drawn
 
 -- the row of the event with this number, if it is drawn
-abbrev pub row_in : List MountRow → List MountRow → Part → ℕ → Lasts → Event → List Obs → RowSides → List ℕ
+abbrev pub row_in : List MountRow → KernelState → Part → ℕ → Lasts → Event → List Obs → RowSides → List ℕ
 row_in before after part number lasts event seen sides =
     if is_drawn part number then row_text before after part number lasts event seen sides else []
 
@@ -101,7 +104,7 @@ abbrev pub head_in : Part → ℕ → List ℕ
 head_in part number = if number == 1 then head_text part else []
 
 -- what is drawn for the event with this number: the head before the first, and its row
-abbrev pub drawn_for : List MountRow → List MountRow → Part → ℕ → Lasts → Event → List Obs → RowSides → List ℕ
+abbrev pub drawn_for : List MountRow → KernelState → Part → ℕ → Lasts → Event → List Obs → RowSides → List ℕ
 drawn_for before after part number lasts event seen sides =
     head_in part number ++ row_in before after part number lasts event seen sides
 
@@ -120,22 +123,22 @@ event_piece part number lasts row = record {
 }
 
 -- what lasts behind the event with this number; what comes behind the part doesn't matter
-abbrev pub next_lasts : Part → ℕ → Lasts → Event → List Obs → Lasts
-next_lasts part number lasts event seen =
-    if is_past part number then lasts else behind number lasts event seen
+abbrev pub next_lasts : Part → ℕ → Lasts → Event → List Obs → KernelState → Lasts
+next_lasts part number lasts event seen after =
+    if is_past part number then lasts else behind number lasts event seen after
 
 -- events from this number on, before which this lasts
 abbrev pub event_pieces : Part → ℕ → Lasts → List Viewed → List Piece
 event_pieces part number lasts [] = []
 event_pieces part number lasts (row ∷ rows) =
     event_piece part number lasts row
-    ∷ event_pieces part (number + 1) (next_lasts part number lasts row.asked.event row.seen) rows
+    ∷ event_pieces part (number + 1) (next_lasts part number lasts row.asked.event row.seen row.after) rows
 
 -- what lasts behind these events
 abbrev pub lasts_behind : Part → ℕ → Lasts → List Viewed → Lasts
 lasts_behind part number lasts [] = lasts
 lasts_behind part number lasts (row ∷ rows) =
-    lasts_behind part (number + 1) (next_lasts part number lasts row.asked.event row.seen) rows
+    lasts_behind part (number + 1) (next_lasts part number lasts row.asked.event row.seen row.after) rows
 
 -- What stands behind the last event, and is of its line. Where there is none, that is a picture which says
 -- so, and it is of the first line.
@@ -146,7 +149,9 @@ tail_pieces bytes (row ∷ next ∷ rows) = tail_pieces bytes (next ∷ rows)
 
 -- in the beginning nobody holds one of the lanes
 abbrev pub first_lasts : Part → Lasts
-first_lasts part = nothing_lasts part.size.tokens part.size.walkers part.size.systems part.size.daemon
+first_lasts part =
+    nothing_lasts part.size.tokens part.size.walkers part.size.systems part.size.daemon part.size.failures
+    part.size.negative
 
 -- the tail of the picture of these events
 abbrev pub tail_for : Part → List Viewed → List ℕ
@@ -336,7 +341,7 @@ pub record IsDrawn (part : Part) (number : ℕ) (s : State) (asked : Numbered) (
   pub views : Views s row next
   pub puts : PutsOut kept keeps (owed_by row.asked.line (event_piece part number before row).bytes) old new
   pub line : keeps.line ≡ row.asked.line
-  pub lasts : after ≡ next_lasts part number before row.asked.event row.seen
+  pub lasts : after ≡ next_lasts part number before row.asked.event row.seen row.after
   pub test : refused ≡ is_refused row.answer
 
 -- memory runs out for it, and nothing is put out
@@ -365,7 +370,7 @@ pub record IsCounted (number : ℕ) (s : State) (asked : Numbered) (next : State
   pub row : Viewed
   pub is : row.asked ≡ asked
   pub views : Views s row next
-  pub adds : after ≡ added number before row.asked.event row.seen
+  pub adds : after ≡ added number before row.asked.event row.seen row.after
 
 -- where counting ends at a fault, it counts the events before it, unless memory ran out
 abbrev pub counted_to : ℕ → ScriptFaultKind → ScriptFault → Result ℕ ScriptFault

@@ -6,7 +6,7 @@ use Rattle.am_draw.specs.Lasting.{Lasts}
 use Rattle.am_draw.specs.Look.{look_text, right_text}
 use Rattle.am_draw.specs.Marks.{label, shift}
 use Rattle.am_draw.specs.Parts.{wide, rows_shown, tall}
-use Rattle.am_draw.specs.Stretches.{all_bars}
+use Rattle.am_draw.specs.FailingBars.{all_bars}
 
 -- how high a picture is of rows that take so many heights of one, in pixels
 abbrev pub height : ℕ → ℕ
@@ -102,7 +102,8 @@ head_for walkers narrow tall rows events =
 -- the head of the picture of this part
 abbrev pub head_text : Part → List ℕ
 head_text part =
-    head_for (wide 7 part.size.walkers) (wide 8 part.size.tokens + wide 0 part.size.systems)
+    head_for (wide 7 part.size.walkers)
+    (wide 8 part.size.tokens + wide 0 part.size.systems + wide 0 part.size.failures)
     (tall part.skipped part.rows) part.rows part.size.events
 
 -- the picture of no event, which says so

@@ -1,6 +1,7 @@
 -- What lasts from one event to the next: who holds which lane, and what bar stands in it. Own choice
 -- (docs/DECISIONS.md, "A picture is as wide as it has to be").
-use Rattle.std.specs.Prelude.{ℕ, List, [], ◌∷◌, map, replicate, Option, None}
+use Rattle.std.specs.Prelude.{ℕ, List, [], ◌∷◌, map, replicate, Option, None, Some}
+use Rattle.am_kernel.specs.{KernelState}
 use Rattle.am_state.specs.{Obs}
 use Rattle.am_machine.specs.{Event}
 use Rattle.am_machine.specs.declared.event.Event.TheVariants as events
@@ -10,14 +11,19 @@ use Rattle.am_wire.specs.declared.packet_type.PacketType.TheVariants.{MissingInd
 use Rattle.am_lanes.specs.{Holder, Look, ended_lane, placed, sighted, with_lane}
 use Rattle.am_lanes.specs.declared.holder.Look.TheVariants.{Missing, Expire, Waits, Inside, Idle, Catatonic, Dead}
 use Rattle.am_lanes.specs.declared.holder.Ending.TheVariants.{Of, In}
+use Rattle.am_draw.specs.declared.failing.Failing.{Failing}
 use Rattle.am_draw.specs.declared.lasting.Lasting.{Lasting}
+use Rattle.am_draw.specs.Failures.{fresh, kept_failing, with_empty, with_failing}
 
--- the lanes of tokens, of walkers and of catatonic file systems, and the daemon's once it has died
+-- The lanes of tokens, of walkers and of catatonic file systems, the daemon's once it has died, and those
+-- of failures that last, and for how many seconds each does.
 pub record Lasts : Type 0 where
   pub tokens : List (Option Holder)
   pub walkers : List (Option Holder)
   pub systems : List (Option Holder)
   pub daemon : List (Option Holder)
+  pub failures : List (Option Failing)
+  pub negative : ℕ
 
 -- those that the code holds
 abbrev pub lasts_of : Lasting → Lasts
@@ -26,15 +32,20 @@ lasts_of lasting = record {
   walkers = lasting.walkers;
   systems = lasting.systems;
   daemon = lasting.daemon;
+  failures = lasting.failures.items;
+  negative = lasting.negative;
 }
 
--- nobody holds one of so many lanes of tokens, of walkers, of file systems and of the daemon
-abbrev pub nothing_lasts : ℕ → ℕ → ℕ → ℕ → Lasts
-nothing_lasts tokens walkers systems daemon = record {
+-- nobody holds one of so many lanes of tokens, of walkers, of file systems, of the daemon and of failures,
+-- which last so many seconds
+abbrev pub nothing_lasts : ℕ → ℕ → ℕ → ℕ → ℕ → ℕ → Lasts
+nothing_lasts tokens walkers systems daemon failures negative = record {
   tokens = replicate tokens None;
   walkers = replicate walkers None;
   systems = replicate systems None;
   daemon = replicate daemon None;
+  failures = replicate failures None;
+  negative = negative;
 }
 
 -- how an open token looks
@@ -126,9 +137,28 @@ acted number lasts (events.Attach path) = with_living lasts
 acted number lasts (events.Reattach fs) = with_living lasts
 acted number lasts event = lasts
 
--- so it is behind the event with this number, of which this is seen
-abbrev pub behind : ℕ → Lasts → Event → List Obs → Lasts
-behind number lasts event seen = seen_behind number (acted number lasts event) seen
+-- ---- what begins and ends with an event's moment
+
+-- the failures end that last no longer behind the event, which leaves this kernel
+abbrev pub with_ended : KernelState → Lasts → Lasts
+with_ended k lasts = record lasts { failures = map (kept_failing lasts.negative k) lasts.failures }
+
+-- the failure that begins to last with the event of this number, if one does
+abbrev pub fresh_in : ℕ → KernelState → Lasts → Option Failing
+fresh_in number k lasts = fresh number lasts.negative k lasts.failures
+
+-- it has a lane
+abbrev pub with_begun : Option Failing → Lasts → Lasts
+with_begun None lasts = lasts
+with_begun (Some held) lasts = record lasts { failures = with_failing held lasts.failures }
+
+-- so it is with the failures behind the event with this number, which leaves this kernel
+abbrev pub turned : ℕ → KernelState → Lasts → Lasts
+turned number k lasts = with_begun (fresh_in number k (with_ended k lasts)) (with_ended k lasts)
+
+-- so it is behind the event with this number, of which this is seen, and which leaves this kernel
+abbrev pub behind : ℕ → Lasts → Event → List Obs → KernelState → Lasts
+behind number lasts event seen k = turned number k (seen_behind number (acted number lasts event) seen)
 
 -- ---- where lanes are added
 
@@ -172,6 +202,18 @@ abbrev pub seen_added : ℕ → Lasts → List Obs → Lasts
 seen_added number lasts [] = lasts
 seen_added number lasts (obs ∷ seen) = seen_added number (changed number (roomed lasts obs) obs) seen
 
+-- there is a lane for the failure that begins to last, if one does
+abbrev pub with_failing_lane : Option Failing → Lasts → Lasts
+with_failing_lane None lasts = lasts
+with_failing_lane (Some held) lasts = record lasts { failures = with_empty lasts.failures }
+
+-- so it is with the failures, where a lane is added for one that has none
+abbrev pub turned_added : ℕ → KernelState → Lasts → Lasts
+turned_added number k lasts =
+    with_begun (fresh_in number k (with_ended k lasts))
+    (with_failing_lane (fresh_in number k (with_ended k lasts)) (with_ended k lasts))
+
 -- so it is behind the event, where a lane is added for whoever may take none
-abbrev pub added : ℕ → Lasts → Event → List Obs → Lasts
-added number lasts event seen = seen_added number (acted number (roomed_for lasts event) event) seen
+abbrev pub added : ℕ → Lasts → Event → List Obs → KernelState → Lasts
+added number lasts event seen k =
+    turned_added number k (seen_added number (acted number (roomed_for lasts event) event) seen)

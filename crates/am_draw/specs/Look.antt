@@ -25,10 +25,11 @@ abbrev pub look_part_2 : List ℕ
 look_part_2 =
     codes ".am .inside{stroke:#a78bda;stroke-width:5}.am .walks{fill:#1f5fbf}"
     ++ (codes ".am .mode{stroke:url(#am-hatch);stroke-width:12}.am .dead{stroke:#fff;stroke-width:2}"
+    ++ (codes ".am .lasting{stroke:#b42318;stroke-width:3}"
     ++ (codes ".am .leaves{stroke:#1f5fbf;stroke-width:3.5}.am .fails{fill:#b42318}"
     ++ (codes ".am .struck{stroke:#fff;stroke-width:1.6}.am .hollow{fill:#fff;stroke:#9a3412;stroke-width:1.8}"
     ++ (codes ".am .expires{fill:#fff;stroke:#b45309;stroke-width:2}.am .daemon{fill:#1a7f4b}"
-    ++ codes ".am .administrator{fill:#57606a}"))))
+    ++ codes ".am .administrator{fill:#57606a}")))))
 
 -- the styles of lines and mounts, and the heads of arrows
 abbrev pub look_part_3 : List ℕ
@@ -126,9 +127,10 @@ look_part_8 =
     ++ (codes "<use href='#am-administrator' x='346' y='46'/>\n"
     ++ (codes "<text class='s' x='358' y='50'>act of the administrator</text>\n"
     ++ (codes "<use href='#am-came' x='512' y='46'/>\n<text class='s' x='520' y='50'>came</text>\n"
-    ++ (codes "<use href='#am-went' x='562' y='46'/>\n<text class='s' x='570' y='50'>went (a mount)</text>\n</g>\n"
+    ++ (codes "<use href='#am-went' x='562' y='46'/>\n<text class='s' x='570' y='50'>went (a mount)</text>\n"
+    ++ (codes "<path class='lasting' d='M670 40v13'/>\n<text class='s' x='678' y='50'>failure that lasts</text>\n</g>\n"
     ++ (codes "<text class='h' x='46' y='108'>events, and their answers</text>\n"
-    ++ codes "<text class='h' x='322' y='108'>walkers</text>\n")))))))
+    ++ codes "<text class='h' x='322' y='108'>walkers</text>\n"))))))))
 
 -- all of them
 abbrev pub look_text : List ℕ

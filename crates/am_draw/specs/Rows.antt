@@ -1,6 +1,7 @@
 -- The row of an event: own choice (docs/FORMATS.md, "Pictures").
-use Rattle.std.specs.Prelude.{ℕ, ◌+◌, ◌-◌, ◌*◌, List, [], ◌∷◌, ◌++◌, codes, decimal, Option, None, Some}
-use Rattle.am_names.specs.{MountRow, Status, fail_number}
+use Rattle.std.specs.Prelude.{ℕ, ◌+◌, ◌-◌, ◌*◌, List, [], ◌∷◌, ◌++◌, codes, decimal, Option}
+use Rattle.am_kernel.specs.{KernelState}
+use Rattle.am_names.specs.{MountRow, Status, errno_of, fail_number}
 use Rattle.am_names.specs.declared.trigger.Trigger.{Trigger}
 use Rattle.am_names.specs.declared.trigger.Status.TheVariants.{Ready, Fail}
 use Rattle.am_wire.specs.declared.packet_type.PacketType.{PacketType}
@@ -17,8 +18,9 @@ use Rattle.am_draw.specs.declared.stretch.Until.{Until}
 use Rattle.am_draw.specs.declared.part.Part.{Part}
 use Rattle.am_draw.specs.declared.went.Went.{Went}
 use Rattle.am_lanes.specs.{lane_of}
-use Rattle.am_draw.specs.Errors.{answer_class, answer_words, mark_of, went_of}
-use Rattle.am_draw.specs.Lasting.{Lasts, changed, acted, behind}
+use Rattle.am_draw.specs.Errors.{answer_class, answer_words, error_word, mark_of, went_of}
+use Rattle.am_draw.specs.FailingBars.{failures_drawn, named_words}
+use Rattle.am_draw.specs.Lasting.{Lasts, changed, acted, behind, seen_behind}
 use Rattle.am_draw.specs.Marks.{stamp, stroke, label, lane_x, first_walker, first_token, first_system, daemon_x}
 use Rattle.am_draw.specs.Parts.{row_y}
 use Rattle.am_draw.specs.Titles.{titles_in}
@@ -148,15 +150,16 @@ abbrev pub status_words : Status → List ℕ
 status_words Ready = codes "READY"
 status_words (Fail error) = codes "FAIL " ++ decimal (fail_number error)
 
+-- the name of a failure's error, below the arrow
+abbrev pub status_error : ℕ → Status → List ℕ
+status_error x Ready = []
+status_error x (Fail error) = label (codes "no") x 22 (error_word (errno_of error))
+
 -- a walker is released from a token with this status
 abbrev pub released_marks : ℕ → ℕ → Status → List ℕ
 released_marks from to status =
-    stroke (released_class status) from to ++ label (status_class status) (to + 9) 9 (status_words status)
-
--- whose record it is in the daemon's book: that of a name, or of a direct trigger
-abbrev pub named_words : ℕ → Option (List ℕ) → List ℕ
-named_words fs None = codes "file system " ++ decimal fs
-named_words fs (Some name) = words 6 name
+    stroke (released_class status) from to
+    ++ (label (status_class status) (to + 9) 9 (status_words status) ++ status_error (to + 9) status)
 
 -- what the book says of a trigger from here on
 abbrev pub book_marks : ℕ → Trigger → Option Record → List ℕ
@@ -173,8 +176,8 @@ abbrev pub shifted : ℕ → List ℕ → List ℕ
 shifted far marks = codes "<g transform='translate(" ++ decimal far ++ (codes ")'>\n" ++ (marks ++ codes "</g>\n"))
 
 -- what is drawn of an observation, where this lasts behind it, and these are the mounts before the
--- event and behind it
-abbrev pub obs_marks : List MountRow → List MountRow → Lasts → Obs → List ℕ
+-- event, and the kernel behind it
+abbrev pub obs_marks : List MountRow → KernelState → Lasts → Obs → List ℕ
 obs_marks before after lasts (seen.Queued token attach packet) =
     queued_marks (token_x lasts token) token packet
 obs_marks before after lasts (seen.Waits walker token) =
@@ -192,7 +195,7 @@ obs_marks before after lasts (seen.Entered walker mount) =
     label (codes "s") (walker_x lasts walker + 8) 17 (codes "in " ++ decimal mount)
 obs_marks before after lasts (seen.Left walker mount) = []
 obs_marks before after lasts (seen.Mounted mounts) =
-    shifted (moved lasts) (mounts_marks (codes "came") (codes " on ") after mounts)
+    shifted (moved lasts) (mounts_marks (codes "came") (codes " on ") after.table.rows mounts)
 obs_marks before after lasts (seen.Unmounted mounts) =
     shifted (moved lasts) (mounts_marks (codes "went") (codes " off ") before mounts)
 obs_marks before after lasts (seen.Delivered token attach packet) =
@@ -205,16 +208,22 @@ obs_marks before after lasts (seen.Reattached fs attach) =
 obs_marks before after lasts seen.Died = label (codes "h") (897 + moved lasts) 17 (codes "the daemon dies")
 
 -- what is drawn of an observation, before which this lasts: the bars that end, and its marks
-abbrev pub obs_drawn : List MountRow → List MountRow → Until → Lasts → Obs → List ℕ
+abbrev pub obs_drawn : List MountRow → KernelState → Until → Lasts → Obs → List ℕ
 obs_drawn before after until lasts obs =
     ended_bars until lasts obs ++ obs_marks before after (changed until.number lasts obs) obs
 
 -- what is drawn of these observations, in order
-abbrev pub seen_drawn : List MountRow → List MountRow → Until → Lasts → List Obs → List ℕ
+abbrev pub seen_drawn : List MountRow → KernelState → Until → Lasts → List Obs → List ℕ
 seen_drawn before after until lasts [] = []
 seen_drawn before after until lasts (obs ∷ seen) =
     obs_drawn before after until lasts obs
     ++ seen_drawn before after until (changed until.number lasts obs) seen
+
+-- the same, and of the failures that end and begin to last behind all of them
+abbrev pub told_drawn : List MountRow → KernelState → Until → Lasts → List Obs → List ℕ
+told_drawn before after until lasts seen =
+    seen_drawn before after until lasts seen
+    ++ failures_drawn after until (seen_behind until.number lasts seen)
 
 -- ---- the row
 
@@ -227,18 +236,18 @@ abbrev pub scene : ℕ → List ℕ → List ℕ
 scene y sides = row_opening y ++ sides
 
 -- what is seen, and who acts, which stands above the bars
-abbrev pub marks : List MountRow → List MountRow → Until → Lasts → Event → Went → List Obs → List ℕ
+abbrev pub marks : List MountRow → KernelState → Until → Lasts → Event → Went → List Obs → List ℕ
 marks before after until lasts event went seen =
     living_bars until lasts event
-    ++ (seen_drawn before after until (acted until.number lasts event) seen
-    ++ (actor_marks (behind until.number lasts event seen) event went ++ codes "</g>\n"))
+    ++ (told_drawn before after until (acted until.number lasts event) seen
+    ++ (actor_marks (behind until.number lasts event seen after) event went ++ codes "</g>\n"))
 
 -- where the bars of the event with this number end
 abbrev pub until_row : Part → ℕ → Until
 until_row part number = record { skipped = part.skipped; number = number; more = 0 }
 
 -- the row of an event before which this lasts
-abbrev pub row_text : List MountRow → List MountRow → Part → ℕ → Lasts → Event → List Obs → RowSides → List ℕ
+abbrev pub row_text : List MountRow → KernelState → Part → ℕ → Lasts → Event → List Obs → RowSides → List ℕ
 row_text before after part number lasts event seen sides =
     scene (row_y part number) sides.words
     ++ (titles_in part number lasts

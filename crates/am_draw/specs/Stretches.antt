@@ -27,9 +27,13 @@ token_columns lasts = wide 8 (length lasts.tokens)
 abbrev pub system_columns : Lasts → ℕ
 system_columns lasts = wide 0 (length lasts.systems)
 
--- how many narrow lanes there are: those of tokens and of file systems
+-- how many lanes of failures have room
+abbrev pub failing_columns : Lasts → ℕ
+failing_columns lasts = wide 0 (length lasts.failures)
+
+-- how many narrow lanes there are: those of tokens, of file systems and of failures
 abbrev pub narrow_columns : Lasts → ℕ
-narrow_columns lasts = token_columns lasts + system_columns lasts
+narrow_columns lasts = token_columns lasts + system_columns lasts + failing_columns lasts
 
 -- how far the columns of the daemon and of mounts are moved
 abbrev pub moved : Lasts → ℕ
@@ -107,11 +111,3 @@ ended_bars until lasts (seen.Left walker mount) = walker_bars (Of walker) until 
 ended_bars until lasts (seen.Reattached fs attach) = system_bars (Of fs) until lasts
 ended_bars until lasts seen.Died = daemon_bars until lasts
 ended_bars until lasts obs = []
-
--- all bars
-abbrev pub all_bars : Until → Lasts → List ℕ
-all_bars until lasts =
-    token_bars All until lasts
-    ++ (walker_bars All until lasts
-    ++ (system_bars All until lasts
-    ++ daemon_bars until lasts))

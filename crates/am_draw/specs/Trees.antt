@@ -11,6 +11,8 @@ use Rattle.am_machine.specs.declared.event.Event.TheVariants as events
 use Rattle.am_machine.specs.State.{State}
 use Rattle.am_mount.specs.{mount_row}
 use Rattle.am_script.specs.{place_text}
+use Rattle.am_draw.specs.declared.trees.MountRows.{MountRows}
+use Rattle.am_draw.specs.declared.trees.MountRows.TheVariants.{Before, Behind}
 use Rattle.am_draw.specs.Marks.{stamp, label}
 use Rattle.am_draw.specs.Words.{words}
 
@@ -32,6 +34,11 @@ takes_mounts s event = false
 -- the mounts before an event, if some may go in it
 abbrev pub rows_before : State → Event → List MountRow
 rows_before s event = if takes_mounts s event then s.kernel.table.rows else []
+
+-- these rows
+abbrev pub tree_rows : MountRows → List MountRow
+tree_rows (Before rows) = rows.now
+tree_rows (Behind world) = world.now.kernel.table.rows
 
 -- ---- marks
 

@@ -14,6 +14,7 @@ use Rattle.am_lanes.specs.Changes.{unless_ended}
 use Rattle.am_lanes.specs.declared.holder.Ending.TheVariants.{In, Of}
 use Rattle.am_lanes.specs.declared.holder.Look.TheVariants as looks
 use Rattle.am_draw.specs.declared.part.Part.{Part}
+use Rattle.am_draw.specs.Changes.{HaveFailures}
 use Rattle.am_draw.specs.Drawn.{Viewed, ViewedRun, asked_in, first_lasts, lasts_behind, size_of}
 use Rattle.am_draw.specs.Lasting.{Lasts, token_look}
 use Rattle.am_draw.specs.Parts.{is_past}
@@ -42,11 +43,12 @@ kind_look kinds.Expire fs = looks.Expire fs
 abbrev pub token_bar : State → ℕ → Option Look
 token_bar s token = option_map (λ row. kind_look row.kind row.trigger.fs) (token_of s.kernel.waits.tokens token)
 
--- who has a bar is who waits, who is inside a mount and what is open in this world, each in one lane; and
--- no walker that waits is inside
+-- who has a bar is who waits, who is inside a mount, what is open and what failed and lasts in this world,
+-- each in one lane; and no walker that waits is inside
 pub record BarsAreOfTheWorld (lasts : Lasts) (s : State) : Type 0 where
   pub tokens : HaveBars lasts.tokens (token_bar s)
   pub walkers : HaveBars lasts.walkers (walker_bar s)
+  pub failures : HaveFailures lasts.failures s.kernel
   pub apart : AreApart s.kernel.waits.waits s.kernel.uses
 
 -- Where a part of a picture has as many lanes as a run of all events comes to from a world's opening, these
@@ -57,7 +59,7 @@ BarsTellTheWorld =
     (part : Part) (opening : Setup) (ends now : State) (all rows : List Viewed) (left : List Numbered) →
     ViewedRun (initial_state_of opening) all ends → ViewedRun (initial_state_of opening) rows now →
     asked_in all ≡ asked_in rows ++ left →
-    part.size ≡ size_of all → is_past part (length rows) ≡ false →
+    part.size ≡ size_of (initial_state_of opening) all → is_past part (length rows) ≡ false →
     BarsAreOfTheWorld (lasts_behind part 1 (first_lasts part) rows) now
 
 -- ---- the bar of a token, by what was seen of it

@@ -13,13 +13,14 @@ ghost use Rattle.am_draw.specs.Rows.{row_text};
 
 use crate::head::{put_empty, put_head, put_tail};
 use crate::lasting::Lasting;
+use crate::negative::negative_of;
 use crate::part::{Part, Size, part_of};
 use crate::row::{Asked, put_marks};
 use crate::scene::{Said, put_scene, say};
 use crate::stretch::Until;
 use crate::titles::put_titles_in;
 use crate::trees::{Trees, rows_before};
-use am_names::Errno;
+use am_names::{Errno, Seconds};
 use am_script::answer_line::put_word;
 use am_script::output::Output;
 use am_script::visit::{Found, Input, Opened, close, next_event, open_script, read_all};
@@ -48,9 +49,10 @@ pub fn draw_script<R: Read, W: Write>(
         (R.remaining reader.new) (W.contents writer.old) (W.contents writer.new)) }
 {
     let input = read_all(alloc, reader);
+    let negative = negative_of(&input);
     match open_script(alloc, &input) {
         Ok(None) => draw_nothing(writer),
-        Ok(Some(opened)) => match count_opened(alloc, opened) {
+        Ok(Some(opened)) => match count_opened(alloc, opened, negative) {
             Ok(counted) => draw_again(alloc, &input, first, last, counted, writer),
             Err(fault) => Err(fault),
         },
@@ -102,7 +104,7 @@ fn draw_again<W: Write>(
     requires fits { vec_len input.now.text < 2 ^ 62 }
     requires lasts { lasts_of counted.lasting
         ≡ nothing_lasts counted.size.tokens counted.size.walkers counted.size.systems
-        counted.size.daemon }
+        counted.size.daemon counted.size.failures counted.size.negative }
     ensures { DrawsAgain first last input.now.broke input.now.text.items counted.size
         (W.contents writer.old) (W.contents writer.new) result }
 {
@@ -119,15 +121,20 @@ fn draw_again<W: Write>(
     }
 }
 
-/// Counts the events behind a head, and the lanes that they come to.
-fn count_opened(alloc: Global, opened: Opened<'_>) -> Result<Counted, ScriptFault>
-    requires { opened.line + size_in (option_copied opened.rest) ≤ 2 ^ 63 }
+/// Counts the events behind a head, and the lanes that they come to, where failures last so many seconds.
+fn count_opened(
+    alloc: Global,
+    opened: Opened<'_>,
+    negative: Seconds,
+) -> Result<Counted, ScriptFault>
+    requires fits { opened.line + size_in (option_copied opened.rest) ≤ 2 ^ 63 }
+    requires negative { (state_of opened.world).kernel.negative ≡ negative }
     ensures ok { IfOk result (λ counted. IsSizeOf (state_of opened.entry.world)
         (events_from opened.entry.broke opened.entry.line
         (lines_in (option_copied opened.entry.rest))) counted.size) }
     ensures lasts { IfOk result (λ counted. lasts_of counted.lasting
         ≡ nothing_lasts counted.size.tokens counted.size.walkers counted.size.systems
-        counted.size.daemon) }
+        counted.size.daemon counted.size.failures counted.size.negative) }
     ensures err { IfErr result (NotCounted (events_from opened.entry.broke opened.entry.line
         (lines_in (option_copied opened.entry.rest)))) }
 {
@@ -137,7 +144,7 @@ fn count_opened(alloc: Global, opened: Opened<'_>) -> Result<Counted, ScriptFaul
         line,
         broke,
     } = opened;
-    let mut lasting = Lasting::new(alloc);
+    let mut lasting = Lasting::new(alloc, negative);
     let events = count_events(alloc, &mut world, rest, line, broke, &mut lasting);
     // It goes by a call, which is cheaper to check.
     drop(world);
@@ -158,10 +165,13 @@ fn cleared(lasting: Lasting, events: u64) -> Counted
       tokens = length (lasts_of lasting).tokens;
       systems = length (lasts_of lasting).systems;
       daemon = length (lasts_of lasting).daemon;
+      failures = length (lasts_of lasting).failures;
+      negative = (lasts_of lasting).negative;
     } }
     ensures lasts { lasts_of result.lasting ≡ nothing_lasts (length (lasts_of lasting).tokens)
         (length (lasts_of lasting).walkers) (length (lasts_of lasting).systems)
-        (length (lasts_of lasting).daemon) }
+        (length (lasts_of lasting).daemon) (length (lasts_of lasting).failures)
+        (lasts_of lasting).negative }
 {
     let mut lasting = lasting;
     lasting.clear();
@@ -171,6 +181,8 @@ fn cleared(lasting: Lasting, events: u64) -> Counted
         tokens: lasting.tokens.len() as u64,
         systems: lasting.systems.len() as u64,
         daemon: lasting.daemon.len() as u64,
+        failures: lasting.failures.len() as u64,
+        negative: lasting.negative,
     };
     Counted { size, lasting }
 }
@@ -187,7 +199,7 @@ fn draw_opened<W: Write>(
     requires fits { opened.line + size_in (option_copied opened.rest) ≤ 2 ^ 63 }
     requires lasts { lasts_of counted.lasting
         ≡ nothing_lasts counted.size.tokens counted.size.walkers counted.size.systems
-        counted.size.daemon }
+        counted.size.daemon counted.size.failures counted.size.negative }
     ensures whole { OnOk result (opened.entry.broke ≡ None) }
     ensures ok { IsSizeOf (state_of opened.entry.world)
         (events_from opened.entry.broke opened.entry.line
@@ -239,7 +251,8 @@ fn count_events(
     lasting: &mut Lasting,
 ) -> Result<u64, ScriptFault>
     requires fits { line + size_in (option_copied rest) ≤ 2 ^ 63 }
-    requires nothing { lasts_of lasting.now ≡ nothing_lasts 0 0 0 0 }
+    requires nothing { lasts_of lasting.now
+        ≡ nothing_lasts 0 0 0 0 0 (state_of world.now).kernel.negative }
     ensures ok { IfOk result (λ events. IsSizeOf (state_of world.old) (events_from broke line
         (lines_in (option_copied rest.entry))) (record {
           events = events;
@@ -247,6 +260,8 @@ fn count_events(
           tokens = length (lasts_of lasting.new).tokens;
           systems = length (lasts_of lasting.new).systems;
           daemon = length (lasts_of lasting.new).daemon;
+          failures = length (lasts_of lasting.new).failures;
+          negative = (lasts_of lasting.new).negative;
         })) }
     ensures err { IfErr result (NotCounted (events_from broke line
         (lines_in (option_copied rest.entry)))) }
@@ -329,7 +344,7 @@ fn count_event(
         return Err(AllocError);
     }
     let seen = world.seen_since(before);
-    lasting.add(number, event, seen)?;
+    lasting.add(number, event, seen, world)?;
     // It is counted, and the world needn't keep it.
     world.let_go(alloc);
     Ok(number)
@@ -567,7 +582,7 @@ fn draw_event<W: Write>(
     let seen = world.seen_since(before);
     let trees = Trees {
         before: rows.as_slice(),
-        behind: world.mounts(),
+        behind: world,
     };
     put_drawn(output, part, lasting, &said, event, seen, &trees, writer);
     // It is drawn, and the world needn't keep it.
@@ -589,11 +604,11 @@ fn put_drawn<W: Write>(
     writer: &mut W,
 )
     requires { part.now.rows ≤ most_rows }
-    ensures drawn { Puts output.old output.new (drawn_for trees.now.before.now trees.now.behind.now
+    ensures drawn { Puts output.old output.new (drawn_for trees.now.before.now trees.now.behind.now.kernel
         part.now said.now.number (lasts_of lasting.old) event.now seen.now (sides_said said.now))
         (W.contents writer.old) (W.contents writer.new) }
     ensures lasts { lasts_of lasting.new ≡ next_lasts part.now said.now.number
-        (lasts_of lasting.old) event.now seen.now }
+        (lasts_of lasting.old) event.now seen.now trees.now.behind.now.kernel }
 {
     put_head_in(output, part, said.number, writer);
     put_row_in(output, part, lasting, said, event, seen, trees, writer);
@@ -622,11 +637,11 @@ fn put_row_in<W: Write>(
     writer: &mut W,
 )
     requires { part.now.rows ≤ most_rows }
-    ensures drawn { Puts output.old output.new (row_in trees.now.before.now trees.now.behind.now
+    ensures drawn { Puts output.old output.new (row_in trees.now.before.now trees.now.behind.now.kernel
         part.now said.now.number (lasts_of lasting.old) event.now seen.now (sides_said said.now))
         (W.contents writer.old) (W.contents writer.new) }
     ensures lasts { lasts_of lasting.new ≡ next_lasts part.now said.now.number
-        (lasts_of lasting.old) event.now seen.now }
+        (lasts_of lasting.old) event.now seen.now trees.now.behind.now.kernel }
 {
     if part.is_past(said.number) {
         return;
@@ -635,7 +650,7 @@ fn put_row_in<W: Write>(
         put_row(output, part, lasting, said, event, seen, trees, writer);
         return;
     }
-    lasting.pass(said.number, event, seen);
+    lasting.pass(said.number, event, seen, trees.behind);
 }
 
 /// Puts out the row of an event.
@@ -651,11 +666,11 @@ fn put_row<W: Write>(
     writer: &mut W,
 )
     requires { said.now.number - part.now.skipped ≤ most_rows }
-    ensures drawn { Puts output.old output.new (row_text trees.now.before.now trees.now.behind.now
+    ensures drawn { Puts output.old output.new (row_text trees.now.before.now trees.now.behind.now.kernel
         part.now said.now.number (lasts_of lasting.old) event.now seen.now (sides_said said.now))
         (W.contents writer.old) (W.contents writer.new) }
     ensures lasts { lasts_of lasting.new ≡ behind said.now.number (lasts_of lasting.old) event.now
-        seen.now }
+        seen.now trees.now.behind.now.kernel }
 {
     let until = Until {
         skipped: part.skipped,

@@ -8,11 +8,12 @@ ghost use Rattle.am_draw.specs.Look.{look_text, right_text};
 ghost use Rattle.am_draw.specs.Marks.{label, shift};
 ghost use Rattle.am_draw.specs.Parts.{most_rows, tall};
 
+use crate::failing_bars::put_all_bars;
 use crate::lasting::Lasting;
 use crate::look::{look, right};
 use crate::marks::{put_closing, put_opening, shift};
 use crate::part::{Part, tall, wide};
-use crate::stretch::{Until, put_all_bars};
+use crate::stretch::Until;
 use am_script::answer_line::{put_number, put_word};
 use am_script::output::Output;
 use std::io::Write;
@@ -24,7 +25,8 @@ pub(crate) fn put_head<W: Write>(output: &mut Output, part: &Part, writer: &mut 
         (W.contents writer.new) }
 {
     let walkers = wide(7, part.size.walkers);
-    let narrow = wide(8, part.size.tokens) + wide(0, part.size.systems);
+    let kernel = wide(8, part.size.tokens) + wide(0, part.size.systems);
+    let narrow = kernel + wide(0, part.size.failures);
     let height = tall(part.skipped, part.rows);
     put_head_for(
         output,
@@ -48,7 +50,7 @@ fn put_head_for<W: Write>(
     writer: &mut W,
 )
     requires walkers { walkers ≤ 1000000 }
-    requires narrow { narrow ≤ 2000000 }
+    requires narrow { narrow ≤ 3000000 }
     requires tall { tall ≤ 2000001 }
     ensures { Puts output.old output.new (head_for walkers narrow tall rows events)
         (W.contents writer.old) (W.contents writer.new) }
@@ -76,7 +78,7 @@ fn put_tag<W: Write>(
     writer: &mut W,
 )
     requires walkers { walkers ≤ 1000000 }
-    requires narrow { narrow ≤ 2000000 }
+    requires narrow { narrow ≤ 3000000 }
     requires tall { tall ≤ 2000001 }
     ensures { Puts output.old output.new (tag_text walkers narrow tall rows events)
         (W.contents writer.old) (W.contents writer.new) }
@@ -125,7 +127,7 @@ fn put_title<W: Write>(output: &mut Output, rows: u64, events: u64, writer: &mut
 #[tactic(auto, using(am_script::proofs::Pieces::puts_two))]
 fn put_ground<W: Write>(output: &mut Output, walkers: u64, narrow: u64, down: u64, writer: &mut W)
     requires walkers { walkers ≤ 1000000 }
-    requires narrow { narrow ≤ 2000000 }
+    requires narrow { narrow ≤ 3000000 }
     ensures { Puts output.old output.new (ground walkers narrow down) (W.contents writer.old)
         (W.contents writer.new) }
 {
@@ -136,7 +138,7 @@ fn put_ground<W: Write>(output: &mut Output, walkers: u64, narrow: u64, down: u6
 #[tactic(auto, using(am_script::proofs::Pieces::puts_two))]
 fn put_left<W: Write>(output: &mut Output, walkers: u64, narrow: u64, down: u64, writer: &mut W)
     requires walkers { walkers ≤ 1000000 }
-    requires narrow { narrow ≤ 2000000 }
+    requires narrow { narrow ≤ 3000000 }
     ensures { Puts output.old output.new (rules (844 + 44 * walkers + 20 * narrow) down
         ++ walker_lanes (44 * walkers) down) (W.contents writer.old) (W.contents writer.new) }
 {
@@ -147,7 +149,7 @@ fn put_left<W: Write>(output: &mut Output, walkers: u64, narrow: u64, down: u64,
 #[tactic(auto, using(am_script::proofs::Pieces::puts_three))]
 fn put_others<W: Write>(output: &mut Output, walkers: u64, narrow: u64, down: u64, writer: &mut W)
     requires walkers { walkers ≤ 1000000 }
-    requires narrow { narrow ≤ 2000000 }
+    requires narrow { narrow ≤ 3000000 }
     ensures { Puts output.old output.new (edges down (320 + 44 * walkers)
         ++ (token_title (328 + 44 * walkers) ++ right_columns (shift walkers narrow) down))
         (W.contents writer.old) (W.contents writer.new) }

@@ -1,12 +1,13 @@
 //! What lasts from one event to the next.
 
 ghost use Rattle.std.specs.Prelude.{◌≡◌, length, OnOk};
-ghost use Rattle.am_draw.specs.Lasting.{token_look, lasts_of, nothing_lasts, with_walker, with_token, with_catatonic, with_reattached, with_dead, with_living, changed, seen_behind, with_sighted, acted, behind, with_token_lane, with_walker_lane, with_system_lane, with_daemon_lane, roomed, roomed_for, seen_added, added};
+ghost use Rattle.am_draw.specs.Lasting.{token_look, lasts_of, nothing_lasts, with_walker, with_token, with_catatonic, with_reattached, with_dead, with_living, changed, seen_behind, with_sighted, acted, with_ended, fresh_in, with_begun, turned, behind, with_token_lane, with_walker_lane, with_system_lane, with_daemon_lane, roomed, roomed_for, seen_added, with_failing_lane, turned_added, added};
 
+use crate::failing::{Failing, add_lane, empty_lanes, end_failures, fresh, take_lane};
 use am_lanes::{Ending, Holder, Lanes, Look};
-use am_names::{FsId, Token, WalkerId};
+use am_names::{FsId, Seconds, Token, WalkerId};
 use am_wire::PacketType;
-use am_world::{Event, Obs};
+use am_world::{Event, Obs, World};
 use std::alloc::{AllocError, Global};
 
 /// There is one daemon, and this is its number.
@@ -21,6 +22,10 @@ pub struct Lasting {
     pub systems: Lanes,
     /// Of the daemon once it has died.
     pub daemon: Lanes,
+    /// Of failures that last.
+    pub failures: Vec<Option<Failing>>,
+    /// For how many seconds a failure lasts.
+    pub negative: Seconds,
 }
 
 /// How an open token looks.
@@ -36,27 +41,31 @@ fn token_look(kind: PacketType, fs: FsId) -> Look
 }
 
 impl Lasting {
-    /// There is no lane.
-    pub fn new(alloc: Global) -> Lasting
-        ensures { lasts_of result ≡ nothing_lasts 0 0 0 0 }
+    /// There is no lane, and a failure lasts for so many seconds.
+    pub fn new(alloc: Global, negative: Seconds) -> Lasting
+        ensures { lasts_of result ≡ nothing_lasts 0 0 0 0 0 negative }
     {
         Lasting {
             tokens: Lanes::new(alloc),
             walkers: Lanes::new(alloc),
             systems: Lanes::new(alloc),
             daemon: Lanes::new(alloc),
+            failures: Vec::new(alloc),
+            negative,
         }
     }
 
     /// Nobody holds a lane any more.
     pub fn clear(&mut self)
         ensures { lasts_of self.new ≡ nothing_lasts (length self.old.tokens) (length self.old.walkers)
-            (length self.old.systems) (length self.old.daemon) }
+            (length self.old.systems) (length self.old.daemon) (length self.old.failures.items)
+            self.old.negative }
     {
         self.tokens.clear();
         self.walkers.clear();
         self.systems.clear();
         self.daemon.clear();
+        empty_lanes(&mut self.failures);
     }
 
     /// Makes the indexes of lanes for which there was no memory.
@@ -182,12 +191,45 @@ impl Lasting {
         }
     }
 
-    /// So it is behind an event of which this is seen.
-    pub fn pass(&mut self, number: u64, event: &Event, seen: &[Obs])
-        ensures { lasts_of self.new ≡ behind number (lasts_of self.old) event.now seen.now }
+    /// The failures end that last no longer in this world.
+    pub fn end_failures(&mut self, world: &World)
+        ensures { lasts_of self.new ≡ with_ended world.now.kernel (lasts_of self.old) }
+    {
+        end_failures(&mut self.failures, world, self.negative);
+    }
+
+    /// The failure that begins to last with the event of this number, if one does.
+    pub fn fresh(&self, number: u64, world: &World) -> Option<Failing>
+        ensures { result ≡ fresh_in number world.now.kernel (lasts_of self.now) }
+    {
+        fresh(world, self.negative, number, self.failures.as_slice())
+    }
+
+    /// It has a lane from here on.
+    pub fn begin(&mut self, fresh: &Option<Failing>)
+        ensures { lasts_of self.new ≡ with_begun fresh.now (lasts_of self.old) }
+    {
+        if let Some(held) = fresh {
+            take_lane(&mut self.failures, *held);
+        }
+    }
+
+    fn turn(&mut self, number: u64, world: &World)
+        ensures { lasts_of self.new ≡ turned number world.now.kernel (lasts_of self.old) }
+    {
+        self.end_failures(world);
+        let fresh = self.fresh(number, world);
+        self.begin(&fresh);
+    }
+
+    /// So it is behind an event of which this is seen, and which leaves this world.
+    pub fn pass(&mut self, number: u64, event: &Event, seen: &[Obs], world: &World)
+        ensures { lasts_of self.new
+            ≡ behind number (lasts_of self.old) event.now seen.now world.now.kernel }
     {
         self.act(number, event);
         self.change_by(number, seen);
+        self.turn(number, world);
     }
 
     fn add_token(&mut self, token: Token) -> Result<(), AllocError>
@@ -251,14 +293,41 @@ impl Lasting {
         Ok(())
     }
 
-    /// So it is behind an event of which this is seen, where a lane is added for whoever may take
-    /// none.
-    pub fn add(&mut self, number: u64, event: &Event, seen: &[Obs]) -> Result<(), AllocError>
+    fn add_failing(&mut self, fresh: &Option<Failing>) -> Result<(), AllocError>
+        ensures { OnOk result (lasts_of self.new ≡ with_failing_lane fresh.now (lasts_of self.old)) }
+    {
+        match fresh {
+            None => Ok(()),
+            Some(_) => add_lane(&mut self.failures),
+        }
+    }
+
+    fn add_turn(&mut self, number: u64, world: &World) -> Result<(), AllocError>
         ensures { OnOk result
-            (lasts_of self.new ≡ added number (lasts_of self.old) event.now seen.now) }
+            (lasts_of self.new ≡ turned_added number world.now.kernel (lasts_of self.old)) }
+    {
+        self.end_failures(world);
+        let fresh = self.fresh(number, world);
+        self.add_failing(&fresh)?;
+        self.begin(&fresh);
+        Ok(())
+    }
+
+    /// So it is behind an event of which this is seen, and which leaves this world, where a lane is
+    /// added for whoever may take none.
+    pub fn add(
+        &mut self,
+        number: u64,
+        event: &Event,
+        seen: &[Obs],
+        world: &World,
+    ) -> Result<(), AllocError>
+        ensures { OnOk result (lasts_of self.new
+            ≡ added number (lasts_of self.old) event.now seen.now world.now.kernel) }
     {
         self.make_room_for(event)?;
         self.act(number, event);
-        self.add_by(number, seen)
+        self.add_by(number, seen)?;
+        self.add_turn(number, world)
     }
 }

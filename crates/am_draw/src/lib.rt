@@ -2,11 +2,14 @@
 #![tactic(auto)]
 
 pub mod draw;
+mod failing;
+mod failing_bars;
 mod head;
 mod lasting;
 pub mod law;
 mod look;
 mod marks;
+mod negative;
 pub mod part;
 mod row;
 mod scene;

@@ -22,6 +22,7 @@ them lanes of walkers, of open tokens, of the daemon and of mounts.</desc>\n\
 .am .waits{stroke:#1f5fbf;stroke-width:5;stroke-dasharray:3.25}\
 .am .inside{stroke:#a78bda;stroke-width:5}.am .walks{fill:#1f5fbf}\
 .am .mode{stroke:url(#am-hatch);stroke-width:12}.am .dead{stroke:#fff;stroke-width:2}\
+.am .lasting{stroke:#b42318;stroke-width:3}\
 .am .leaves{stroke:#1f5fbf;stroke-width:3.5}.am .fails{fill:#b42318}\
 .am .struck{stroke:#fff;stroke-width:1.6}.am .hollow{fill:#fff;stroke:#9a3412;stroke-width:1.8}\
 .am .expires{fill:#fff;stroke:#b45309;stroke-width:2}.am .daemon{fill:#1a7f4b}\
@@ -99,7 +100,8 @@ M263 0v26M277 0v26'/>\
 <use href='#am-administrator' x='346' y='46'/>\n\
 <text class='s' x='358' y='50'>act of the administrator</text>\n\
 <use href='#am-came' x='512' y='46'/>\n<text class='s' x='520' y='50'>came</text>\n\
-<use href='#am-went' x='562' y='46'/>\n<text class='s' x='570' y='50'>went (a mount)</text>\n</g>\n\
+<use href='#am-went' x='562' y='46'/>\n<text class='s' x='570' y='50'>went (a mount)</text>\n\
+<path class='lasting' d='M670 40v13'/>\n<text class='s' x='678' y='50'>failure that lasts</text>\n</g>\n\
 <text class='h' x='46' y='108'>events, and their answers</text>\n\
 <text class='h' x='322' y='108'>walkers</text>\n"
 }

@@ -14,7 +14,7 @@ use std::io::Write;
 /// How far lanes stand apart.
 #[derive(Clone, Copy)]
 pub enum LaneKind {
-    /// Those of tokens, and of file systems.
+    /// Those of tokens, of file systems and of failures.
     Narrow,
     /// Those of walkers.
     Wide,
@@ -45,9 +45,9 @@ pub(crate) fn daemon_x(moved: u64) -> u64
 /// How far the columns at the right are moved, behind so many wide lanes and so many narrow ones.
 pub(crate) fn shift(wide: u64, narrow: u64) -> u64
     requires wide { wide ≤ 1000000 }
-    requires narrow { narrow ≤ 2000000 }
+    requires narrow { narrow ≤ 3000000 }
     ensures shift { result ≡ shift wide narrow }
-    ensures most { result ≤ 83999532 }
+    ensures most { result ≤ 103999532 }
 {
     (44 * wide + 20 * narrow).saturating_sub(468)
 }

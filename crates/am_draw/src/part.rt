@@ -3,6 +3,8 @@
 ghost use Rattle.std.specs.Prelude.{◌≡◌, ◌+◌, ◌-◌, ◌<◌, ◌≤◌, ◌^◌};
 ghost use Rattle.am_draw.specs.Parts.{most_rows, most_lanes, part_of, is_drawn, is_past, rows_shown, rows_a_title, titles_among, titles_before, has_titles, tall, row_y, wide};
 
+use am_names::Seconds;
+
 /// The most rows of a picture.
 pub const MOST_ROWS: u64 = 1_000_000;
 
@@ -25,6 +27,10 @@ pub struct Size {
     pub systems: u64,
     /// How many lanes of the daemon: one if it dies.
     pub daemon: u64,
+    /// How many lanes of failures that last.
+    pub failures: u64,
+    /// For how many seconds a failure lasts.
+    pub negative: Seconds,
 }
 
 /// Which of the events are drawn.

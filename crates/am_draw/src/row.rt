@@ -1,16 +1,19 @@
 //! The marks in the row of an event.
 
 ghost use Rattle.std.specs.Prelude.{◌≡◌, ◌≤◌, ◌+◌, ◌-◌, ◌++◌, codes, decimal};
-ghost use Rattle.am_names.specs.{fail_number};
+ghost use Rattle.am_names.specs.{errno_of, fail_number};
+ghost use Rattle.am_draw.specs.Errors.{error_word};
 ghost use Rattle.am_script.specs.{entry_text, Puts};
-ghost use Rattle.am_draw.specs.Lasting.{lasts_of, changed, seen_behind, behind};
+ghost use Rattle.am_draw.specs.Lasting.{lasts_of, changed, seen_behind, turned, behind};
 ghost use Rattle.am_draw.specs.Marks.{stamp, label};
 ghost use Rattle.am_draw.specs.Parts.{most_rows};
 ghost use Rattle.am_draw.specs.Stretches.{moved};
-ghost use Rattle.am_draw.specs.Rows.{token_x, walker_x, system_x, inset, numbered_mark, walker_mark, administrator_mark, daemon_mark, act_mark, actor_marks, kind_words, packet_words, queued_marks, answered_symbol, released_class, status_class, status_words, released_marks, named_words, book_marks, catatonic_words, shifted, obs_marks, obs_drawn, seen_drawn, marks};
-ghost use Rattle.am_draw.specs.Trees.{mounts_marks};
+ghost use Rattle.am_draw.specs.Rows.{token_x, walker_x, system_x, inset, numbered_mark, walker_mark, administrator_mark, daemon_mark, act_mark, actor_marks, kind_words, packet_words, queued_marks, answered_symbol, released_class, status_class, status_words, status_error, released_marks, book_marks, catatonic_words, shifted, obs_marks, obs_drawn, seen_drawn, told_drawn, marks};
+ghost use Rattle.am_draw.specs.FailingBars.{named_words};
+ghost use Rattle.am_draw.specs.Trees.{mounts_marks, tree_rows};
 ghost use Rattle.am_draw.specs.Words.{words};
 
+use crate::failing_bars::{put_failures, put_named};
 use crate::lasting::Lasting;
 use crate::marks::{
     LaneKind, daemon_x, lane_x, put_closing, put_number_label, put_opening, put_stamp, put_stroke,
@@ -18,10 +21,10 @@ use crate::marks::{
 use crate::stretch::{
     Until, first_system, first_token, moved, put_ended_bars, put_living_bars, walker_columns,
 };
-use crate::trees::{Trees, put_mounts};
-use crate::went::{Went, mark_of};
+use crate::trees::{MountRows, Trees, put_mounts};
+use crate::went::{Went, error_word, mark_of};
 use crate::words::put_words;
-use am_names::{Attach, FsId, JobId, MountIds, MountRow, Name, Status, Token, Trigger, WalkerId};
+use am_names::{Attach, FailNo, FsId, JobId, MountIds, Status, Token, Trigger, WalkerId};
 use am_script::answer_line::{put_entry, put_number, put_word};
 use am_script::output::Output;
 use am_state::KeptTrigger;
@@ -83,15 +86,16 @@ pub(crate) fn put_marks<W: Write>(
 )
     requires rows { until.now.number - until.now.skipped ≤ most_rows }
     requires more { until.now.more ≤ 13 }
-    ensures marks { Puts output.old output.new (marks trees.now.before.now trees.now.behind.now
+    ensures marks { Puts output.old output.new (marks trees.now.before.now trees.now.behind.now.kernel
         until.now (lasts_of lasting.old) asked.now.event.now asked.now.went seen.now)
         (W.contents writer.old) (W.contents writer.new) }
     ensures lasts { lasts_of lasting.new
-        ≡ behind until.now.number (lasts_of lasting.old) asked.now.event.now seen.now }
+        ≡ behind until.now.number (lasts_of lasting.old) asked.now.event.now seen.now
+        trees.now.behind.now.kernel }
 {
     put_living_bars(output, until, lasting, asked.event, writer);
     lasting.act(until.number, asked.event);
-    put_seen(output, until, lasting, seen, trees, writer);
+    put_told(output, until, lasting, seen, trees, writer);
     put_actor(output, lasting, asked, writer);
     put_word(output, b"</g>\n", writer);
 }
@@ -189,6 +193,28 @@ fn put_actor<W: Write>(output: &mut Output, lasting: &Lasting, asked: &Asked<'_>
     }
 }
 
+/// Puts out what is drawn of all that is seen, and of the failures behind that, and takes it in.
+#[tactic(auto, using(am_script::proofs::Pieces::puts_two))]
+fn put_told<W: Write>(
+    output: &mut Output,
+    until: &Until,
+    lasting: &mut Lasting,
+    seen: &[Obs],
+    trees: &Trees<'_>,
+    writer: &mut W,
+)
+    requires rows { until.now.number - until.now.skipped ≤ most_rows }
+    requires more { until.now.more ≤ 13 }
+    ensures drawn { Puts output.old output.new (told_drawn trees.now.before.now
+        trees.now.behind.now.kernel until.now (lasts_of lasting.old) seen.now)
+        (W.contents writer.old) (W.contents writer.new) }
+    ensures lasts { lasts_of lasting.new ≡ turned until.now.number trees.now.behind.now.kernel
+        (seen_behind until.now.number (lasts_of lasting.old) seen.now) }
+{
+    put_seen(output, until, lasting, seen, trees, writer);
+    put_failures(output, until, lasting, trees.behind, writer);
+}
+
 /// Puts out what is drawn of all that is seen, and takes it in.
 #[tactic(auto, using(am_script::proofs::Pieces::puts_none))]
 fn put_seen<W: Write>(
@@ -202,7 +228,7 @@ fn put_seen<W: Write>(
     requires rows { until.now.number - until.now.skipped ≤ most_rows }
     requires more { until.now.more ≤ 13 }
     ensures drawn { Puts output.old output.new (seen_drawn trees.now.before.now
-        trees.now.behind.now until.now (lasts_of lasting.old) seen.now) (W.contents writer.old)
+        trees.now.behind.now.kernel until.now (lasts_of lasting.old) seen.now) (W.contents writer.old)
         (W.contents writer.new) }
     ensures lasts { lasts_of lasting.new
         ≡ seen_behind until.now.number (lasts_of lasting.old) seen.now }
@@ -225,7 +251,7 @@ fn put_change<W: Write>(
     requires rows { until.now.number - until.now.skipped ≤ most_rows }
     requires more { until.now.more ≤ 13 }
     ensures drawn { Puts output.old output.new (obs_drawn trees.now.before.now
-        trees.now.behind.now until.now (lasts_of lasting.old) obs.now) (W.contents writer.old)
+        trees.now.behind.now.kernel until.now (lasts_of lasting.old) obs.now) (W.contents writer.old)
         (W.contents writer.new) }
     ensures lasts { lasts_of lasting.new
         ≡ changed until.now.number (lasts_of lasting.old) obs.now }
@@ -242,12 +268,12 @@ fn put_shifted<W: Write>(
     lasting: &Lasting,
     symbol: &[u8],
     joint: &[u8],
-    rows: &[MountRow],
+    rows: &MountRows<'_>,
     mounts: &MountIds,
     writer: &mut W,
 )
     ensures { Puts output.old output.new (shifted (moved (lasts_of lasting.now))
-        (mounts_marks symbol.now joint.now rows.now mounts.now))
+        (mounts_marks symbol.now joint.now (tree_rows rows.now) mounts.now))
         (W.contents writer.old) (W.contents writer.new) }
 {
     let far = moved(lasting);
@@ -265,7 +291,7 @@ fn put_obs<W: Write>(
     trees: &Trees<'_>,
     writer: &mut W,
 )
-    ensures { Puts output.old output.new (obs_marks trees.now.before.now trees.now.behind.now
+    ensures { Puts output.old output.new (obs_marks trees.now.before.now trees.now.behind.now.kernel
         (lasts_of lasting.now) obs.now) (W.contents writer.old) (W.contents writer.new) }
 {
     match obs {
@@ -305,7 +331,7 @@ fn put_obs<W: Write>(
                 lasting,
                 b"came",
                 b" on ",
-                trees.behind,
+                &MountRows::Behind(trees.behind),
                 mounts,
                 writer,
             )
@@ -316,7 +342,7 @@ fn put_obs<W: Write>(
                 lasting,
                 b"went",
                 b" off ",
-                trees.before,
+                &MountRows::Before(trees.before),
                 mounts,
                 writer,
             )
@@ -454,8 +480,29 @@ fn put_status_label<W: Write>(output: &mut Output, x: u64, status: Status, write
     put_closing(output, writer);
 }
 
+#[tactic(auto, using(am_script::proofs::Pieces::puts_three))]
+fn put_error_label<W: Write>(output: &mut Output, x: u64, error: FailNo, writer: &mut W)
+    ensures { Puts output.old output.new (label (codes "no") x 22 (error_word (errno_of error)))
+        (W.contents writer.old) (W.contents writer.new) }
+{
+    put_opening(output, b"no", x, 22, writer);
+    put_word(output, error_word(error.errno()), writer);
+    put_closing(output, writer);
+}
+
+/// Puts out the name of a failure's error.
+fn put_status_error<W: Write>(output: &mut Output, x: u64, status: Status, writer: &mut W)
+    ensures { Puts output.old output.new (status_error x status) (W.contents writer.old)
+        (W.contents writer.new) }
+{
+    match status {
+        Status::Ready => put_word(output, b"", writer),
+        Status::Fail(error) => put_error_label(output, x, error, writer),
+    }
+}
+
 /// Puts out the arrow to a walker that is released.
-#[tactic(auto, using(am_script::proofs::Pieces::puts_two))]
+#[tactic(auto, using(am_script::proofs::Pieces::puts_three))]
 fn put_released<W: Write>(output: &mut Output, from: u64, to: u64, status: Status, writer: &mut W)
     requires { to ≤ 88000344 }
     ensures { Puts output.old output.new (released_marks from to status) (W.contents writer.old)
@@ -463,6 +510,7 @@ fn put_released<W: Write>(output: &mut Output, from: u64, to: u64, status: Statu
 {
     put_stroke(output, released_class(status), from, to, writer);
     put_status_label(output, to + 9, status, writer);
+    put_status_error(output, to + 9, status, writer);
 }
 
 #[tactic(auto, using(am_script::proofs::Pieces::puts_two))]
@@ -495,23 +543,6 @@ fn put_catatonic<W: Write>(output: &mut Output, lasting: &Lasting, fs: FsId, wri
     put_catatonic_label(output, 719 + x, fs, writer);
 }
 
-fn put_fs<W: Write>(output: &mut Output, fs: FsId, writer: &mut W)
-    ensures { Puts output.old output.new (codes "file system " ++ decimal fs)
-        (W.contents writer.old) (W.contents writer.new) }
-{
-    put_number(output, b"file system ", u64::from(fs.0), writer);
-}
-
-fn put_named<W: Write>(output: &mut Output, fs: FsId, name: &Option<Name>, writer: &mut W)
-    ensures { Puts output.old output.new (named_words fs name.now) (W.contents writer.old)
-        (W.contents writer.new) }
-{
-    match name {
-        None => put_fs(output, fs, writer),
-        Some(name) => put_words(output, 6, name.as_bytes(), writer),
-    }
-}
-
 #[tactic(auto, using(am_script::proofs::Pieces::puts_two))]
 fn put_book_name<W: Write>(output: &mut Output, trigger: &Trigger, writer: &mut W)
     ensures { Puts output.old output.new
@@ -519,7 +550,7 @@ fn put_book_name<W: Write>(output: &mut Output, trigger: &Trigger, writer: &mut 
         (W.contents writer.new) }
 {
     put_word(output, b"book: ", writer);
-    put_named(output, trigger.fs, &trigger.name, writer);
+    put_named(output, trigger, writer);
 }
 
 #[tactic(auto, using(am_script::proofs::Pieces::puts_three))]

@@ -4,7 +4,7 @@ ghost use Rattle.std.specs.Prelude.{◌≡◌, ◌<◌, ◌≤◌, ◌+◌, ◌-
 ghost use Rattle.am_script.specs.{Puts};
 ghost use Rattle.am_draw.specs.Lasting.{lasts_of};
 ghost use Rattle.am_draw.specs.Parts.{most_rows};
-ghost use Rattle.am_draw.specs.Stretches.{walker_columns, token_columns, system_columns, narrow_columns, moved, reach, bar, lane_bar, lane_bars, token_bars, walker_bars, system_bars, daemon_bars, living_bars, ended_bars, all_bars};
+ghost use Rattle.am_draw.specs.Stretches.{walker_columns, token_columns, system_columns, failing_columns, narrow_columns, moved, reach, bar, lane_bar, lane_bars, token_bars, walker_bars, system_bars, daemon_bars, living_bars, ended_bars};
 ghost use Rattle.am_draw.specs.Marks.{first_token, first_system};
 
 use crate::lasting::Lasting;
@@ -45,25 +45,33 @@ pub(crate) fn token_columns(lasting: &Lasting) -> u64
 }
 
 /// How many lanes of file systems have room.
-fn system_columns(lasting: &Lasting) -> u64
+pub(crate) fn system_columns(lasting: &Lasting) -> u64
     ensures columns { result ≡ system_columns (lasts_of lasting.now) }
     ensures most { result ≤ 1000000 }
 {
     wide(0, lasting.systems.len() as u64)
 }
 
-/// How many narrow lanes there are: those of tokens and of file systems.
+/// How many lanes of failures have room.
+fn failing_columns(lasting: &Lasting) -> u64
+    ensures columns { result ≡ failing_columns (lasts_of lasting.now) }
+    ensures most { result ≤ 1000000 }
+{
+    wide(0, lasting.failures.len() as u64)
+}
+
+/// How many narrow lanes there are: those of tokens, of file systems and of failures.
 fn narrow_columns(lasting: &Lasting) -> u64
     ensures columns { result ≡ narrow_columns (lasts_of lasting.now) }
-    ensures most { result ≤ 2000000 }
+    ensures most { result ≤ 3000000 }
 {
-    token_columns(lasting) + system_columns(lasting)
+    token_columns(lasting) + system_columns(lasting) + failing_columns(lasting)
 }
 
 /// How far the columns of the daemon and of mounts are moved.
 pub(crate) fn moved(lasting: &Lasting) -> u64
     ensures moved { result ≡ moved (lasts_of lasting.now) }
-    ensures most { result ≤ 83999532 }
+    ensures most { result ≤ 103999532 }
 {
     shift(walker_columns(lasting), narrow_columns(lasting))
 }
@@ -88,7 +96,7 @@ pub(crate) fn first_system(lasting: &Lasting) -> u64
 }
 
 /// How far up a bar reaches, in pixels.
-fn reach(until: &Until, mark: u64, since: u64) -> u64
+pub(crate) fn reach(until: &Until, mark: u64, since: u64) -> u64
     requires rows { until.now.number - until.now.skipped ≤ most_rows }
     requires more { until.now.more ≤ 13 }
     ensures { result ≡ reach until.now mark since }
@@ -178,7 +186,7 @@ fn put_lanes<W: Write>(
     }
 }
 
-fn put_token_bars<W: Write>(
+pub(crate) fn put_token_bars<W: Write>(
     output: &mut Output,
     ending: &Ending,
     until: &Until,
@@ -202,7 +210,7 @@ fn put_token_bars<W: Write>(
     );
 }
 
-fn put_walker_bars<W: Write>(
+pub(crate) fn put_walker_bars<W: Write>(
     output: &mut Output,
     ending: &Ending,
     until: &Until,
@@ -225,7 +233,7 @@ fn put_walker_bars<W: Write>(
     );
 }
 
-fn put_system_bars<W: Write>(
+pub(crate) fn put_system_bars<W: Write>(
     output: &mut Output,
     ending: &Ending,
     until: &Until,
@@ -250,7 +258,12 @@ fn put_system_bars<W: Write>(
 }
 
 /// Puts out the bar of the dead daemon.
-fn put_daemon_bars<W: Write>(output: &mut Output, until: &Until, lasting: &Lasting, writer: &mut W)
+pub(crate) fn put_daemon_bars<W: Write>(
+    output: &mut Output,
+    until: &Until,
+    lasting: &Lasting,
+    writer: &mut W,
+)
     requires rows { until.now.number - until.now.skipped ≤ most_rows }
     requires more { until.now.more ≤ 13 }
     ensures { Puts output.old output.new (daemon_bars until.now (lasts_of lasting.now))
@@ -360,23 +373,4 @@ pub(crate) fn put_ended_bars<W: Write>(
         Obs::Died => put_daemon_bars(output, until, lasting, writer),
         _ => (),
     }
-}
-
-/// Puts out all bars.
-#[tactic(auto, using(am_views::proofs::FourPieces::puts_four))]
-pub(crate) fn put_all_bars<W: Write>(
-    output: &mut Output,
-    until: &Until,
-    lasting: &Lasting,
-    writer: &mut W,
-)
-    requires rows { until.now.number - until.now.skipped ≤ most_rows }
-    requires more { until.now.more ≤ 13 }
-    ensures { Puts output.old output.new (all_bars until.now (lasts_of lasting.now))
-        (W.contents writer.old) (W.contents writer.new) }
-{
-    put_token_bars(output, &Ending::All, until, lasting, writer);
-    put_walker_bars(output, &Ending::All, until, lasting, writer);
-    put_system_bars(output, &Ending::All, until, lasting, writer);
-    put_daemon_bars(output, until, lasting, writer);
 }

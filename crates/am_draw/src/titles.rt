@@ -1,23 +1,27 @@
 //! The titles of the columns, which stand once more each forty rows.
 
-ghost use Rattle.std.specs.Prelude.{◌≡◌, ◌≤◌, ◌-◌, ◌++◌, codes, decimal};
+ghost use Rattle.std.specs.Prelude.{◌≡◌, ◌≤◌, ◌-◌, ◌++◌, codes, decimal, get_or, None};
 ghost use Rattle.am_script.specs.{Puts};
 ghost use Rattle.am_draw.specs.Lasting.{lasts_of};
 ghost use Rattle.am_draw.specs.Look.{left_again_text, right_again_text};
 ghost use Rattle.am_draw.specs.Marks.{label};
-ghost use Rattle.am_draw.specs.Titles.{name, lane_name, first_names, names, tokens_again, right_again, titles, titles_in};
+ghost use Rattle.am_draw.specs.Titles.{name, lane_name, first_names, short_words, failing_name, failing_names, name_y, named_lanes, names, tokens_again, right_again, titles, titles_in};
 
+use crate::failing::Failing;
+use crate::failing_bars::first_failing;
 use crate::lasting::Lasting;
 use crate::look::{left_again, right_again};
 use crate::marks::{LaneKind, lane_x, put_closing, put_number_label, put_opening};
 use crate::part::Part;
 use crate::stretch::{first_system, first_token, moved, walker_columns};
+use crate::words::put_words;
 use am_lanes::{Holder, Lanes, Look};
+use am_names::{FsId, Name, Trigger};
 use am_script::answer_line::{put_number, put_word};
 use am_script::output::Output;
 use std::io::Write;
 
-/// So many lanes of walkers, of tokens and of file systems are told of.
+/// So many lanes of walkers, of tokens, of file systems and of failures are told of.
 const NAMED_LANES: usize = 64;
 
 fn put_token_name<W: Write>(output: &mut Output, number: u32, x: u64, writer: &mut W)
@@ -92,16 +96,97 @@ fn put_first_names<W: Write>(
     }
 }
 
+fn put_short_fs<W: Write>(output: &mut Output, fs: FsId, writer: &mut W)
+    ensures { Puts output.old output.new (short_words fs None) (W.contents writer.old)
+        (W.contents writer.new) }
+{
+    put_number(output, b"fs ", u64::from(fs.0), writer);
+}
+
+fn put_short_words<W: Write>(output: &mut Output, trigger: &Trigger, writer: &mut W)
+    ensures { Puts output.old output.new (short_words trigger.now.fs trigger.now.name)
+        (W.contents writer.old) (W.contents writer.new) }
+{
+    let name: &Option<Name> = &trigger.name;
+    match name {
+        None => put_short_fs(output, trigger.fs, writer),
+        Some(name) => put_words(output, 2, name.as_bytes(), writer),
+    }
+}
+
 #[tactic(auto, using(am_script::proofs::Pieces::puts_three))]
+fn put_short_label<W: Write>(output: &mut Output, trigger: &Trigger, x: u64, y: u64, writer: &mut W)
+    ensures { Puts output.old output.new (label (codes "s failed") x y
+        (short_words trigger.now.fs trigger.now.name)) (W.contents writer.old)
+        (W.contents writer.new) }
+{
+    put_opening(output, b"s failed", x, y, writer);
+    put_short_words(output, trigger, writer);
+    put_closing(output, writer);
+}
+
+#[tactic(auto, using(am_script::proofs::Pieces::puts_none))]
+fn put_failing_name<W: Write>(
+    output: &mut Output,
+    lane: &Option<Failing>,
+    x: u64,
+    y: u64,
+    writer: &mut W,
+)
+    ensures { Puts output.old output.new (failing_name lane.now x y) (W.contents writer.old)
+        (W.contents writer.new) }
+{
+    if let Some(held) = lane {
+        put_short_label(output, &held.trigger, x, y, writer);
+    }
+}
+
+/// The height of the name of a lane: names stand at two heights by turns, as they are wider than a lane.
+fn name_y(lane: usize) -> u64
+    ensures { result ≡ name_y lane }
+{
+    10 + 11 * (lane as u64 % 2)
+}
+
+fn failing_at(lanes: &[Option<Failing>], lane: usize) -> Option<Failing>
+    ensures { result ≡ get_or lanes.now lane None }
+{
+    if lane < lanes.len() {
+        return lanes[lane];
+    }
+    None
+}
+
+/// Puts out of what the failures in the first lanes are, the first of which stands there.
+#[tactic(auto, using(am_script::proofs::Pieces::puts_none))]
+fn put_failing_names<W: Write>(
+    output: &mut Output,
+    first: u64,
+    lanes: &[Option<Failing>],
+    writer: &mut W,
+)
+    requires { first ≤ 1000000000 }
+    ensures { Puts output.old output.new (failing_names first lanes.now named_lanes)
+        (W.contents writer.old) (W.contents writer.new) }
+{
+    for lane in 0..NAMED_LANES {
+        let x = lane_x(LaneKind::Narrow, first, lane) + 5;
+        put_failing_name(output, &failing_at(lanes, lane), x, name_y(lane), writer);
+    }
+}
+
+#[tactic(auto, using(am_views::proofs::FourPieces::puts_four))]
 fn put_names<W: Write>(output: &mut Output, lasting: &Lasting, writer: &mut W)
     ensures { Puts output.old output.new (names (lasts_of lasting.now)) (W.contents writer.old)
         (W.contents writer.new) }
 {
     let token = first_token(lasting);
     let system = first_system(lasting);
+    let failing = first_failing(lasting);
     put_first_names(output, LaneKind::Wide, 332, &lasting.walkers, writer);
     put_first_names(output, LaneKind::Narrow, token, &lasting.tokens, writer);
     put_first_names(output, LaneKind::Narrow, system, &lasting.systems, writer);
+    put_failing_names(output, failing, lasting.failures.as_slice(), writer);
 }
 
 #[tactic(auto, using(am_script::proofs::Pieces::puts_three))]

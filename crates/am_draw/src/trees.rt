@@ -5,7 +5,7 @@ ghost use Rattle.std.specs.Bool.{OnTrue};
 ghost use Rattle.am_mount.specs.{mount_row};
 ghost use Rattle.am_script.specs.{place_text, Puts};
 ghost use Rattle.am_world.specs.Capacity.{state_of};
-ghost use Rattle.am_draw.specs.Trees.{is_umount, takes_mounts, rows_before, tree_x, tree_mark, tree_marks, point_words, row_words, tree_words, more_dots, tree_label, tree_label_in, tree_labels, mounts_marks};
+ghost use Rattle.am_draw.specs.Trees.{is_umount, takes_mounts, rows_before, tree_rows, tree_x, tree_mark, tree_marks, point_words, row_words, tree_words, more_dots, tree_label, tree_label_in, tree_labels, mounts_marks};
 ghost use Rattle.am_draw.specs.Words.{words};
 
 use crate::marks::{put_closing, put_opening, put_stamp};
@@ -17,11 +17,11 @@ use am_world::{Act, Event, World};
 use std::alloc::{AllocError, Global};
 use std::io::Write;
 
-/// The mounts before an event, if some may go in it, and those behind it.
+/// The mounts before an event, if some may go in it, and the world behind it.
 #[derive(Clone, Copy)]
 pub struct Trees<'a> {
     pub before: &'a [MountRow],
-    pub behind: &'a [MountRow],
+    pub behind: &'a World,
 }
 
 fn is_umount(act: Option<&Act>) -> bool
@@ -81,10 +81,27 @@ pub(crate) fn rows_before(
     Ok(Vec::new(alloc))
 }
 
-fn row_of(rows: &[MountRow], mount: MountId) -> Option<&MountRow>
+/// The rows of mounts: copies of those before an event, or those of the world behind it.
+#[derive(Clone, Copy)]
+pub enum MountRows<'a> {
+    Before(&'a [MountRow]),
+    Behind(&'a World),
+}
+
+fn row_among(rows: &[MountRow], mount: MountId) -> Option<&MountRow>
     ensures { option_copied result ≡ mount_row rows.now mount }
 {
     rows.iter().find(|row| row.mount == mount)
+}
+
+/// The row of a mount: a world finds it by halves, and those that were copied are looked at in order.
+fn row_of<'a>(rows: &MountRows<'a>, mount: MountId) -> Option<&'a MountRow>
+    ensures { option_copied result ≡ mount_row (tree_rows rows.now) mount }
+{
+    match rows {
+        MountRows::Before(rows) => row_among(rows, mount),
+        MountRows::Behind(world) => world.mount_row(mount),
+    }
 }
 
 /// The middle of the lane of a namespace, in pixels from the left.
@@ -97,11 +114,11 @@ fn tree_x(ns: NsId) -> u64
 fn put_tree_mark<W: Write>(
     output: &mut Output,
     symbol: &[u8],
-    rows: &[MountRow],
+    rows: &MountRows<'_>,
     mount: MountId,
     writer: &mut W,
 )
-    ensures { Puts output.old output.new (tree_mark symbol.now (mount_row rows.now mount))
+    ensures { Puts output.old output.new (tree_mark symbol.now (mount_row (tree_rows rows.now) mount))
         (W.contents writer.old) (W.contents writer.new) }
 {
     match row_of(rows, mount) {
@@ -124,11 +141,11 @@ fn first_mounts(mounts: &[MountId]) -> &[MountId]
 fn put_tree_marks<W: Write>(
     output: &mut Output,
     symbol: &[u8],
-    rows: &[MountRow],
+    rows: &MountRows<'_>,
     mounts: &[MountId],
     writer: &mut W,
 )
-    ensures { Puts output.old output.new (tree_marks symbol.now rows.now mounts.now)
+    ensures { Puts output.old output.new (tree_marks symbol.now (tree_rows rows.now) mounts.now)
         (W.contents writer.old) (W.contents writer.new) }
 {
     for mount in mounts {
@@ -174,11 +191,11 @@ fn put_point<W: Write>(
 fn put_row_words<W: Write>(
     output: &mut Output,
     joint: &[u8],
-    rows: &[MountRow],
+    rows: &MountRows<'_>,
     mount: MountId,
     writer: &mut W,
 )
-    ensures { Puts output.old output.new (row_words joint.now (mount_row rows.now mount))
+    ensures { Puts output.old output.new (row_words joint.now (mount_row (tree_rows rows.now) mount))
         (W.contents writer.old) (W.contents writer.new) }
 {
     match row_of(rows, mount) {
@@ -202,12 +219,12 @@ fn put_dots<W: Write>(output: &mut Output, more: bool, writer: &mut W)
 fn put_tree_words<W: Write>(
     output: &mut Output,
     joint: &[u8],
-    rows: &[MountRow],
+    rows: &MountRows<'_>,
     mount: MountId,
     more: bool,
     writer: &mut W,
 )
-    ensures { Puts output.old output.new (tree_words joint.now rows.now mount more)
+    ensures { Puts output.old output.new (tree_words joint.now (tree_rows rows.now) mount more)
         (W.contents writer.old) (W.contents writer.new) }
 {
     put_number(output, b"", mount.0, writer);
@@ -220,12 +237,12 @@ fn put_tree_label<W: Write>(
     output: &mut Output,
     y: u64,
     joint: &[u8],
-    rows: &[MountRow],
+    rows: &MountRows<'_>,
     mount: MountId,
     more: bool,
     writer: &mut W,
 )
-    ensures { Puts output.old output.new (tree_label y joint.now rows.now mount more)
+    ensures { Puts output.old output.new (tree_label y joint.now (tree_rows rows.now) mount more)
         (W.contents writer.old) (W.contents writer.new) }
 {
     put_opening(output, b"s", 1148, y, writer);
@@ -238,12 +255,12 @@ fn put_tree_label_in<W: Write>(
     output: &mut Output,
     y: u64,
     joint: &[u8],
-    rows: &[MountRow],
+    rows: &MountRows<'_>,
     mount: Option<MountId>,
     more: bool,
     writer: &mut W,
 )
-    ensures { Puts output.old output.new (tree_label_in y joint.now rows.now mount more)
+    ensures { Puts output.old output.new (tree_label_in y joint.now (tree_rows rows.now) mount more)
         (W.contents writer.old) (W.contents writer.new) }
 {
     if let Some(mount) = mount {
@@ -261,11 +278,11 @@ fn mount_at(mounts: &[MountId], at: usize) -> Option<MountId>
 fn put_tree_labels<W: Write>(
     output: &mut Output,
     joint: &[u8],
-    rows: &[MountRow],
+    rows: &MountRows<'_>,
     mounts: &[MountId],
     writer: &mut W,
 )
-    ensures { Puts output.old output.new (tree_labels joint.now rows.now mounts.now)
+    ensures { Puts output.old output.new (tree_labels joint.now (tree_rows rows.now) mounts.now)
         (W.contents writer.old) (W.contents writer.new) }
 {
     let more = 2 < mounts.len();
@@ -279,11 +296,11 @@ pub(crate) fn put_mounts<W: Write>(
     output: &mut Output,
     symbol: &[u8],
     joint: &[u8],
-    rows: &[MountRow],
+    rows: &MountRows<'_>,
     mounts: &MountIds,
     writer: &mut W,
 )
-    ensures { Puts output.old output.new (mounts_marks symbol.now joint.now rows.now mounts.now)
+    ensures { Puts output.old output.new (mounts_marks symbol.now joint.now (tree_rows rows.now) mounts.now)
         (W.contents writer.old) (W.contents writer.new) }
 {
     let mounts = mounts.as_slice();

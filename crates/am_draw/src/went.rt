@@ -18,7 +18,7 @@ pub enum Went {
     Refused,
 }
 
-fn error_word(error: Errno) -> &'static [u8]
+pub(crate) fn error_word(error: Errno) -> &'static [u8]
     ensures { result.now ≡ error_word error }
 {
     match error {

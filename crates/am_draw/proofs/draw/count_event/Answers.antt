@@ -16,4 +16,4 @@ returns-clause-counted c =
     subst (λ (t : State). IsCounted c.args.number (state_of old) (record { line = c.args.line; event = c.args.event.now }) t (lasts_of c.args.lasting.now) (lasts_of c.add.new.self))
     (sym c.let_go.ensures.same)
     (counts c.args.number (state_of old) (state_of next) c.args.event.now c.step-answer.result c.step-answer.ensures.step.0 c.seen_since-seen.result.now c.args.line (old.handed + length shown) (lasts_of c.args.lasting.now) (lasts_of c.add.new.self) c.step-answer.ensures.step.1 room c.trace-before.ensures.count seen
-    (c.in_ok-add.ensures ∙ ap (λ (l : Lasts). added c.args.number l c.args.event.now c.seen_since-seen.result.now) c.mend.ensures))
+    (c.in_ok-add.ensures ∙ ap (λ (l : Lasts). added c.args.number l c.args.event.now c.seen_since-seen.result.now next.kernel) c.mend.ensures))

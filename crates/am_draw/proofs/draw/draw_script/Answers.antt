@@ -1,6 +1,11 @@
 use Rattle.std.proofs.Common.{Err}
-use Rattle.am_draw.proofs.DrawInputs.{input_ok, input_err, from_nothing, from_head, from_count, script_size}
+use Rattle.am_draw.proofs.DrawInputs.{input_ok, input_err, from_nothing, from_head, from_count, opened_negative, script_size}
 use Rattle.am_draw.proofs.draw.draw_script.Goals as goal
+
+pub count_opened-requires-clause-negative : goal.count_opened-requires-clause-negative
+count_opened-requires-clause-negative g c =
+    let input = c.read_all-input.result in
+    opened_negative input.text.items input.broke c.in-Ok-Some.opened c.negative_of-negative.result (rw c.in-Ok-Some.field-0-is at c.in-Ok-Some.ensures.ok) c.negative_of-negative.ensures
 
 pub returns-in-Ok-None-clause-ok : goal.returns-in-Ok-None-clause-ok
 returns-in-Ok-None-clause-ok g c =

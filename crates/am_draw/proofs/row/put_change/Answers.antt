@@ -9,5 +9,5 @@ use Rattle.am_draw.proofs.row.put_change.Goals as goal
 pub returns-clause-drawn : goal.returns-clause-drawn
 returns-clause-drawn g c =
     let contents = g.W.Write.contents in
-    subst (λ (l : Lasts). Puts c.args.output.now c.put_obs.new.output (ended_bars c.args.until.now (lasts_of c.args.lasting.now) c.args.obs.now ++ obs_marks c.args.trees.now.before.now c.args.trees.now.behind.now l c.args.obs.now) (contents c.args.writer.now) (contents c.put_obs.new.writer)) c.change.ensures
+    subst (λ (l : Lasts). Puts c.args.output.now c.put_obs.new.output (ended_bars c.args.until.now (lasts_of c.args.lasting.now) c.args.obs.now ++ obs_marks c.args.trees.now.before.now c.args.trees.now.behind.now.kernel l c.args.obs.now) (contents c.args.writer.now) (contents c.put_obs.new.writer)) c.change.ensures
     (puts_two _ _ _ _ _ _ _ _ c.put_ended_bars.ensures c.put_obs.ensures)

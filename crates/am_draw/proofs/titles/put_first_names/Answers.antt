@@ -1,4 +1,4 @@
-use Rattle.std.proofs.Common.{◌≡◌, ◌++◌, List, ℕ, Option, subst, arith}
+use Rattle.std.proofs.Common.{◌≡◌, List, ℕ, Option, subst, arith}
 use Rattle.am_script.specs.{Puts}
 use Rattle.am_script.proofs.Pieces.{puts_two}
 use Rattle.am_draw.specs.{Holder, lane_name, lane_names}

@@ -1,0 +1,7 @@
+use Rattle.am_script.proofs.Pieces.{puts_three}
+use Rattle.am_draw.proofs.failing_bars.put_failing_label.Goals as goal
+
+pub returns : goal.returns
+returns g c =
+    puts_three _ _ _ _ _ _ _ _ _ _ _
+    c.put_opening.ensures c.put_failing_words.ensures c.put_closing.ensures
