@@ -1,6 +1,6 @@
 //! The mounts and the peer groups by the groups that they name.
 
-ghost use Rattle.std.specs.Prelude.{◌≡◌, ◌≤◌, length, take, OnOk, OnErr};
+ghost use Rattle.std.specs.Prelude.{◌≡◌, ◌≤◌, length, take, IfOk, OnOk, OnErr};
 ghost use Rattle.am_index.specs.{AddsTo, DropsLast, ListsRise, SameLists, TakesFrom};
 ghost use Rattle.am_group.specs.declared.indexes.Indexes.{Indexes};
 ghost use Rattle.am_group.specs.Changes.{is_just};
@@ -89,6 +89,17 @@ impl Indexes {
             slaves: Index::new(alloc),
             below: Index::new(alloc),
         }
+    }
+
+    /// The same lists once more.
+    pub fn copy(&self, alloc: Global) -> Result<Indexes, AllocError>
+        ensures { IfOk result (HaveSameLists self.now) }
+    {
+        Ok(Indexes {
+            members: self.members.copy(alloc)?,
+            slaves: self.slaves.copy(alloc)?,
+            below: self.below.copy(alloc)?,
+        })
     }
 
     /// Makes room for the mount.

@@ -50,6 +50,19 @@ impl Watched {
         Ok(())
     }
 
+    /// Watches the file systems that another one watches.
+    #[tactic(auto, using(crate::proofs::WatchedLemmas::watched_yet, crate::proofs::WatchedLemmas::watched_too))]
+    pub fn watch_all(&mut self, other: &Watched) -> Result<(), AllocError>
+        ensures { Watches self.old self.new }
+    {
+        for place in 0..other.lists.len() {
+            if let Some((fs, _)) = other.lists.get_index(place) {
+                self.watch(*fs)?;
+            }
+        }
+        Ok(())
+    }
+
     /// Makes room for one more mount of the file system, if it is watched. The answer is the place
     /// of its list.
     pub fn make_room(&mut self, fs: u64) -> Result<Option<usize>, AllocError>
