@@ -486,6 +486,42 @@ def refuses_each(program, refuse, words, given, is_well):
     return None
 
 
+# A session, each of whose allocations is refused.
+SESSION = (b"master", b"/auto m", b"end", b"map m", b"home srv:/home", b"end", b"events", b"attach /auto", b"walk 7 0 /auto/home 5 room",
+           b"?world", b"deliver 1", b"act 1 ok", b"act 1 ok", b"?trace", b"nscopy 0", b"?world 1", b"!reset", b"events", b"mount 0 /a")
+
+
+def served(program, lines):
+    return replies_of(program.run(["serve"], b"".join(it + b"\n" for it in lines))[1])
+
+
+def replies_of(wrote):
+    return re.split(rb"^\.\n", wrote, flags=re.M)[:-1]
+
+
+def is_served_well(program):
+    """Tells of a session in which an allocation was refused whether all is as without that, or the reply to one line
+    tells that there was no memory and the others are as where that line isn't there."""
+    whole = served(program, SESSION)
+
+    def judge(ran):
+        status, wrote, said = ran
+        found = replies_of(wrote)
+        if status != 0 or said or len(found) != len(whole):
+            return False
+        at = next((number for number, (one, other) in enumerate(zip(found, whole)) if one != other), None)
+        if at is None:
+            return True
+        if found[at] != b"err 10\n" and re.fullmatch(rb"fault \d+ NoMemory\n", found[at]) is None:
+            return False
+        if SESSION[at] == b"events":
+            # Another head begins.
+            return all(it == b"" or b"NoWorld" in it for it in found[at + 1:SESSION.index(b"!reset")])
+        return found[:at] + found[at + 1:] == served(program, SESSION[:at] + SESSION[at + 1:])
+
+    return judge
+
+
 def picture_beginnings(program):
     """Of a picture any beginning may be written."""
     whole = program.run(["draw"], SHORT)[1]
@@ -512,6 +548,7 @@ def refusals(program, refuse):
             (["script"], TOO_LONG[0], ([b""], [b""])), (["trace"], BAD_HEADS[0][0], ([b""], [b""]))):
         yield words, lambda words=words, given=given, found=found, whole=whole: refuses_each(
             program, refuse, words, given, is_refused_at_fault(found, whole, program.run(words, given)[2]))
+    yield ["serve"], lambda: refuses_each(program, refuse, ["serve"], b"".join(it + b"\n" for it in SESSION), is_served_well(program))
     # Where there is no memory to find what may be meant, the command lines are told alone; a file is seen all the same.
     for words, hints in REFUSED:
         yield words, lambda words=words, hints=hints: refuses_each(
@@ -559,7 +596,7 @@ def checks(program):
     little, refuse = program.built("little"), program.built("refuse")
     for row in LOSSES:
         yield f"{row[0]}: {row[2]} bytes at once, {row[3]} in all", lambda row=row: is_lost(program, little, row)
-    for command in ("script", "trace", "draw", "world", "judge", "help", "--version"):
+    for command in ("script", "trace", "draw", "world", "serve", "judge", "help", "--version"):
         for most in (1, 7, 5000):
             yield f"{command}: {most} bytes at once", lambda command=command, most=most: is_whole(program, little, command, most)
     for words, run in refusals(program, refuse):
