@@ -43,7 +43,7 @@ fn copied(alloc: Global, head: &[u8]) -> Result<Input, ScriptFault>
     ensures text { IfOk result (λ input. input.text.items ≡ head.now) }
     ensures whole { IfOk result (λ input. input.broke ≡ None) }
     ensures short { IfOk result (λ input. vec_len input.text < 2 ^ 62) }
-    ensures err { IfErr result IsNotKept }
+    ensures err { IfErr result (IsNotKept head.now) }
 {
     if head.len() > MOST {
         return Err(ScriptFault {
