@@ -31,7 +31,7 @@ import places  # noqa: E402
 
 PATIENCE = 60
 # What stands below the first line of a command line that is none, and before it what may be meant by it.
-COMMAND_LINES_THERE_ARE = b"""usage: automount_cli script|judge|import < FILE
+COMMAND_LINES_THERE_ARE = b"""usage: automount_cli script|serve|judge|import < FILE
        automount_cli trace [--plain] < FILE
        automount_cli draw [--from N] [--to N] < FILE
        automount_cli world [--namespace N] < FILE
@@ -162,6 +162,7 @@ NO_COMMAND_LINES = [
     (["draw", "--from", "0"], b""), (["draw", "--to", "4294967296"], b""), (["draw", "--from"], b""),
     (["draw", "x"], fed(b"draw")), (["draw", "x", "--from", "1"], fed(b"draw")),
     (["draw", "--from", "1", "--from", "2"], b""), (["draw", "--form", "1"], b""),
+    (["server"], near(b"serve")), (["serve", "x"], fed(b"serve", b"session")),
     (["judge", "x"], fed(b"judge", b"trace")), (["import", "x"], fed(b"import", b"mountinfo")),
     (["world", "--namespace", "one"], b""), (["world", "--namespace"], b""), (["world", "1"], fed(b"world")),
     (["world", "--namespace", "4294967296"], b""), (["world", "--from", "1"], b""),
@@ -271,6 +272,8 @@ COMMAND_LINES = [
     (["world", "--namespace", "1"], b"events\n", (1, b"", b"fault: line 1: NoSuchNamespace\n")),
     (["world", "--namespace", "1"], PROPAGATION, (0, PROPAGATED, b"")),
     (["world"], b"events\nmount 0 /a\nx\n", (1, b"", placed(3, b"BadEvent", b"x", 1, AN_EVENT))),
+    (["serve"], b"", (0, b"", b"")),
+    (["serve"], b"events\nx\n" + SHORT[7:], (0, b".\nfault 2:1 BadEvent expected the word of an event\n.\nmount 2\n.\nerr 5\n.\n", b"")),
     (["judge"], b"", (0, b"lawful\n", b"")),
     (["judge"], BROKEN, (1, b"line 2: a walker waits on a token that is open\n", b"")),
     (["judge"], b"  left 1 mount 5\n  died now\n", (1, b"", b"fault: line 2, column 7: the end of the line expected\n")),
@@ -313,6 +316,7 @@ LOSSES = [
     ("trace", SHORT, 1, 44, 3), ("draw", SHORT, 100, 0, 2), ("draw", SHORT, 1, 1, 2), ("draw", SHORT, 100, 6000, 2),
     ("draw", b"", 100, 0, 1), ("draw", b"events\n", 100, 6000, 1), ("draw", b"events\n", 1, 1, 1),
     ("script", SHORT, 100, 0, 2), ("script", SHORT, 1, 8, 3),
+    ("serve", SHORT, 100, 0, 1), ("serve", SHORT, 7, 3, 2), ("serve", SHORT, 1, 12, 3), ("serve", SHORT, 100, 19, 3),
     ("help", b"", 5000, 0, None), ("help", b"", 100, 250, None), ("help", b"", 1, 1000, None),
     ("--version", b"", 100, 0, None), ("--version", b"", 7, 15, None),
     ("threads", b"", 100, 0, None), ("threads", b"", 2, 8, None),
