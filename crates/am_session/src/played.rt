@@ -316,8 +316,10 @@ pub fn next_act(session: &Session, job: JobId) -> Option<&Act>
 pub fn token_awaited(session: &Session, walker: WalkerId) -> Option<Token>
     ensures { result ≡ awaited (wait_of session.now.world.kernel.waits.waits walker) }
 {
-    let wait = session.world.wait_of(walker)?;
-    awaited(&wait)
+    match session.world.wait_of(walker) {
+        Some(wait) => awaited(&wait),
+        None => None,
+    }
 }
 
 /// The token of a wait, unless that is acknowledged.
