@@ -4,15 +4,19 @@ each bound, zero bytes, long lines, broken sections, and heads and events of all
 
 usage: bench/hostile.py FIRST COUNT     plays the scripts of these seeds
        bench/hostile.py SEED            writes the script of a seed
+       bench/hostile.py --serve COUNT   serves the scripts of so many seeds, from 1, and asks behind each line
        bench/hostile.py long            plays scripts of 64 MiB, and tells the memory that they take
        bench/hostile.py digits          changes each of the 608 digits of a packet that is delivered
 
 PROGRAM in the environment is the path of the program; else it is the one that tools/program.sh
 prints. Each run must end in 20 seconds of processor time with status 0 and nothing on standard error, or with status 1
 and one line there that tells a fault and its line; each event before that line must have an answer,
-which is one of the lines that answers may be, and nothing else may be written.
+which is one of the lines that answers may be, and nothing else may be written. In a session each line must have its
+reply, behind a fault and a line that is skipped the world and what was seen last must be as before, and the answers and
+the first fault must be those of the script.
 """
 
+import functools
 import os
 import random
 import re
@@ -356,6 +360,110 @@ def play_all(program, first, count):
     return 0
 
 
+REPLY_FAULT = re.compile(rb"fault ([1-9][0-9]*)(:[1-9][0-9]*)? ([A-Za-z]+)( expected .+)?\n")
+
+
+class Session:
+    """A session, line by line."""
+
+    def __init__(self, program):
+        pipes = {"stdin": subprocess.PIPE, "stdout": subprocess.PIPE, "stderr": subprocess.PIPE}
+        self.child = subprocess.Popen([program, "serve"], **pipes)
+        resource.prlimit(self.child.pid, resource.RLIMIT_CPU, (SECONDS * 3, SECONDS * 3))
+
+    def ask(self, line):
+        self.child.stdin.write(line + b"\n")
+        self.child.stdin.flush()
+        return b"".join(iter(self.child.stdout.readline, b".\n"))
+
+    def end(self):
+        """Its status, and what is left of its outputs."""
+        wrote, said = self.child.communicate(timeout=PATIENCE)
+        return self.child.returncode, wrote + said
+
+
+def words_of(line):
+    return [it for it in re.split(rb"[ \t]+", line) if it]
+
+
+class Served:
+    """What a session makes of the lines of a script, and what is wrong with it."""
+
+    def __init__(self, session):
+        self.session, self.section, self.playing = session, False, False
+        self.answers, self.fault, self.faults, self.is_odd = b"", None, 0, False
+
+    def follow(self, line, reply):
+        """Where the session stands behind a line of a head."""
+        words = words_of(line)
+        if len(line) > LONGEST:
+            self.is_odd = True
+        elif self.section:
+            self.section = line != b"end"
+        elif words == [b"events"]:
+            self.playing = reply == b""
+        else:
+            self.is_odd |= words[:1] != [] and words[0][:1] in (b"?", b"!")
+            self.section = words == [b"master"] or len(words) == 2 and words[0] == b"map"
+
+    def asked(self):
+        return self.session.ask(b"?world"), self.session.ask(b"?trace")
+
+    def take(self, line):
+        """Takes a line; returns what is wrong, if anything is."""
+        was_playing = self.playing
+        before = self.asked() if was_playing else None
+        reply = self.session.ask(line)
+        told = REPLY_FAULT.fullmatch(reply)
+        if told:
+            self.faults += 1
+            self.fault = self.fault or (int(told[1]), told[3])
+        elif reply and not ANSWER.fullmatch(reply[:-1]):
+            return f"a reply {reply!r}"
+        elif not self.fault:
+            self.answers += reply
+        if was_playing and (told or not reply) and self.asked() != before:
+            return f"another world behind {line[:80]!r}"
+        if not was_playing:
+            self.follow(line, reply)
+        return None
+
+
+def serve(program, seed):
+    """What is wrong with a session of a script's lines, if anything is, and how many faults it told."""
+    text = Script(seed).bytes()
+    lines = text.split(b"\n")
+    session = Session(program)
+    served = Served(session)
+    for line in lines if lines[-1] else lines[:-1]:
+        wrong = served.take(line)
+        if wrong:
+            session.child.kill()
+            return seed, served.faults, wrong[:300]
+    status, rest = session.end()
+    if status or rest:
+        return seed, served.faults, f"status {status}, and {rest[:200]!r}"
+    played, wrote, said = ran(program, text)
+    told = FAULT.match(said)
+    if served.is_odd or not served.playing and not served.fault:
+        return seed, served.faults, None
+    if served.answers != wrote or served.fault != (told and (int(told[1]), told[2])) or (played == 1) != bool(told):
+        return seed, served.faults, f"{served.fault} and {len(served.answers)} bytes, where the script has {said[:80]!r} and {len(wrote)}"
+    return seed, served.faults, None
+
+
+def serve_all(program, count):
+    faults = 0
+    with ThreadPoolExecutor(os.cpu_count()) as pool:
+        for seed, told, wrong in pool.map(lambda it: serve(program, it), range(1, count + 1)):
+            if wrong:
+                print(f"hostile: seed {seed}: {wrong}", file=sys.stderr)
+                return 1
+            faults += told
+    print(f"{count} scripts are served: {faults} faults told, behind each of which all is as before")
+    return 0
+
+
 def long_scripts():
     """Scripts of 64 MiB, in pieces, and what each must come to."""
     piece = 1 << 20
@@ -424,8 +532,11 @@ def program_of():
 def main(words):
     numbers = [int(it) for it in words[1:] if it.isdecimal()]
     play = {"long": play_long, "digits": play_digits}.get(" ".join(words[1:]))
+    if words[1:2] == ["--serve"] and len(words) == 3 and len(numbers) == 1:
+        play = functools.partial(serve_all, count=numbers[0])
+        numbers = [1, *numbers]
     if not play and not (len(numbers) == len(words) - 1 and len(numbers) in (1, 2)):
-        print("hostile: expected a first seed and a count, one seed, long, or digits", file=sys.stderr)
+        print("hostile: expected a first seed and a count, one seed, --serve and a count, long, or digits", file=sys.stderr)
         return 2
     if len(numbers) == 1:
         sys.stdout.buffer.write(Script(numbers[0]).bytes())

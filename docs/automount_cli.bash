@@ -2,7 +2,7 @@
 _automount_cli() {
     local word=${COMP_WORDS[COMP_CWORD]} before=${COMP_WORDS[COMP_CWORD - 1]} words=
     if [[ $COMP_CWORD -eq 1 ]]; then
-        words="script trace draw world judge import threads help"
+        words="script trace draw world serve judge import threads help"
         [[ $word != -* ]] || words="--help --version"
     elif [[ $before == --* || $before == = ]]; then
         # A number: nothing can be completed, and a file is none.
@@ -13,7 +13,7 @@ _automount_cli() {
             draw) words="--from --to" ;;
             world) words="--namespace" ;;
             threads) words="--walkers --workers --rounds" ;;
-            help) words="script trace draw world judge import threads help" ;;
+            help) words="script trace draw world serve judge import threads help" ;;
         esac
     fi
     mapfile -t COMPREPLY < <(compgen -W "$words" -- "$word")

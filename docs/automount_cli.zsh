@@ -9,6 +9,7 @@ _automount_cli() {
         'trace:plays a script and writes its trace'
         'draw:plays a script and draws what happened'
         'world:plays a script and writes the world that it leaves'
+        'serve:answers each line as it comes, and what is asked between events'
         'judge:reads a trace and says whether it is lawful'
         'import:reads mountinfo and writes a script that builds its mounts'
         'threads:has threads walk, serve and expire in one world'

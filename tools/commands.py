@@ -31,7 +31,7 @@ import places  # noqa: E402
 
 PATIENCE = 60
 # What stands below the first line of a command line that is none, and before it what may be meant by it.
-COMMAND_LINES_THERE_ARE = b"""usage: automount_cli script|judge|import < FILE
+COMMAND_LINES_THERE_ARE = b"""usage: automount_cli script|serve|judge|import < FILE
        automount_cli trace [--plain] < FILE
        automount_cli draw [--from N] [--to N] < FILE
        automount_cli world [--namespace N] < FILE
@@ -162,6 +162,7 @@ NO_COMMAND_LINES = [
     (["draw", "--from", "0"], b""), (["draw", "--to", "4294967296"], b""), (["draw", "--from"], b""),
     (["draw", "x"], fed(b"draw")), (["draw", "x", "--from", "1"], fed(b"draw")),
     (["draw", "--from", "1", "--from", "2"], b""), (["draw", "--form", "1"], b""),
+    (["server"], near(b"serve")), (["serve", "x"], fed(b"serve", b"session")),
     (["judge", "x"], fed(b"judge", b"trace")), (["import", "x"], fed(b"import", b"mountinfo")),
     (["world", "--namespace", "one"], b""), (["world", "--namespace"], b""), (["world", "1"], fed(b"world")),
     (["world", "--namespace", "4294967296"], b""), (["world", "--from", "1"], b""),
@@ -271,6 +272,8 @@ COMMAND_LINES = [
     (["world", "--namespace", "1"], b"events\n", (1, b"", b"fault: line 1: NoSuchNamespace\n")),
     (["world", "--namespace", "1"], PROPAGATION, (0, PROPAGATED, b"")),
     (["world"], b"events\nmount 0 /a\nx\n", (1, b"", placed(3, b"BadEvent", b"x", 1, AN_EVENT))),
+    (["serve"], b"", (0, b"", b"")),
+    (["serve"], b"events\nx\n" + SHORT[7:], (0, b".\nfault 2:1 BadEvent expected the word of an event\n.\nmount 2\n.\nerr 5\n.\n", b"")),
     (["judge"], b"", (0, b"lawful\n", b"")),
     (["judge"], BROKEN, (1, b"line 2: a walker waits on a token that is open\n", b"")),
     (["judge"], b"  left 1 mount 5\n  died now\n", (1, b"", b"fault: line 2, column 7: the end of the line expected\n")),
@@ -313,6 +316,7 @@ LOSSES = [
     ("trace", SHORT, 1, 44, 3), ("draw", SHORT, 100, 0, 2), ("draw", SHORT, 1, 1, 2), ("draw", SHORT, 100, 6000, 2),
     ("draw", b"", 100, 0, 1), ("draw", b"events\n", 100, 6000, 1), ("draw", b"events\n", 1, 1, 1),
     ("script", SHORT, 100, 0, 2), ("script", SHORT, 1, 8, 3),
+    ("serve", SHORT, 100, 0, 1), ("serve", SHORT, 7, 3, 2), ("serve", SHORT, 1, 12, 3), ("serve", SHORT, 100, 19, 3),
     ("help", b"", 5000, 0, None), ("help", b"", 100, 250, None), ("help", b"", 1, 1000, None),
     ("--version", b"", 100, 0, None), ("--version", b"", 7, 15, None),
     ("threads", b"", 100, 0, None), ("threads", b"", 2, 8, None),
@@ -486,6 +490,42 @@ def refuses_each(program, refuse, words, given, is_well):
     return None
 
 
+# A session, each of whose allocations is refused.
+SESSION = (b"master", b"/auto m", b"end", b"map m", b"home srv:/home", b"end", b"events", b"attach /auto", b"walk 7 0 /auto/home 5 room",
+           b"?world", b"deliver 1", b"act 1 ok", b"act 1 ok", b"?trace", b"nscopy 0", b"?world 1", b"!reset", b"events", b"mount 0 /a")
+
+
+def served(program, lines):
+    return replies_of(program.run(["serve"], b"".join(it + b"\n" for it in lines))[1])
+
+
+def replies_of(wrote):
+    return re.split(rb"^\.\n", wrote, flags=re.M)[:-1]
+
+
+def is_served_well(program):
+    """Tells of a session in which an allocation was refused whether all is as without that, or the reply to one line
+    tells that there was no memory and the others are as where that line isn't there."""
+    whole = served(program, SESSION)
+
+    def judge(ran):
+        status, wrote, said = ran
+        found = replies_of(wrote)
+        if status != 0 or said or len(found) != len(whole):
+            return False
+        at = next((number for number, (one, other) in enumerate(zip(found, whole)) if one != other), None)
+        if at is None:
+            return True
+        if found[at] != b"err 10\n" and re.fullmatch(rb"fault \d+ NoMemory\n", found[at]) is None:
+            return False
+        if SESSION[at] == b"events":
+            # Another head begins.
+            return all(it == b"" or b"NoWorld" in it for it in found[at + 1:SESSION.index(b"!reset")])
+        return found[:at] + found[at + 1:] == served(program, SESSION[:at] + SESSION[at + 1:])
+
+    return judge
+
+
 def picture_beginnings(program):
     """Of a picture any beginning may be written."""
     whole = program.run(["draw"], SHORT)[1]
@@ -512,6 +552,7 @@ def refusals(program, refuse):
             (["script"], TOO_LONG[0], ([b""], [b""])), (["trace"], BAD_HEADS[0][0], ([b""], [b""]))):
         yield words, lambda words=words, given=given, found=found, whole=whole: refuses_each(
             program, refuse, words, given, is_refused_at_fault(found, whole, program.run(words, given)[2]))
+    yield ["serve"], lambda: refuses_each(program, refuse, ["serve"], b"".join(it + b"\n" for it in SESSION), is_served_well(program))
     # Where there is no memory to find what may be meant, the command lines are told alone; a file is seen all the same.
     for words, hints in REFUSED:
         yield words, lambda words=words, hints=hints: refuses_each(
@@ -559,7 +600,7 @@ def checks(program):
     little, refuse = program.built("little"), program.built("refuse")
     for row in LOSSES:
         yield f"{row[0]}: {row[2]} bytes at once, {row[3]} in all", lambda row=row: is_lost(program, little, row)
-    for command in ("script", "trace", "draw", "world", "judge", "help", "--version"):
+    for command in ("script", "trace", "draw", "world", "serve", "judge", "help", "--version"):
         for most in (1, 7, 5000):
             yield f"{command}: {most} bytes at once", lambda command=command, most=most: is_whole(program, little, command, most)
     for words, run in refusals(program, refuse):

@@ -13,8 +13,8 @@ use denote.Struct.Struct.{within}
 use denote.Struct.Owning.{shape}
 use Rattle.am_c.specs.Kept.{keeps}
 use Rattle.am_c.specs.contracts.kept.Kept as kept
-use Rattle.am_c.specs.contracts.session.Session as session
-use Rattle.am_c.specs.declared.session.Session.{Session}
+use Rattle.am_session.specs.contracts.played.Session as session
+use Rattle.am_session.specs.{Session}
 
 -- what is there, where it isn't nothing
 pub some_of : (k : Option Session) → k ≢ None → (x : Session) × (k ≡ Some x)

@@ -1,5 +1,3 @@
-mod AskedLemmas
-mod BegunLemmas
 mod BufferLemmas
 mod FillsLemmas
 mod KeptLemmas

@@ -1,10 +1,10 @@
 -- A call that uses the world that C holds, from what is called in it.
 use Rattle.std.proofs.Common.{◌≡◌, ℕ, List, length, Option, Some, None, Result, Ok, Err, refl, subst, sym, arith}
 use Rattle.am_script.specs.{ScriptFault, Summary}
-use Rattle.am_c.specs.declared.session.Session.{Session}
+use Rattle.am_session.specs.{IsNew, Session}
 use Rattle.am_c.specs.Buffer.{with_front}
 use Rattle.am_c.specs.Scripts.{IsTold, fault_number}
-use Rattle.am_c.specs.Sessions.{Held, IsNew, News, Uses, began, held_count, session_in}
+use Rattle.am_c.specs.Sessions.{Held, News, Uses, began, held_count, session_in}
 
 -- a world is there, and is put back
 pub uses_held : (does : Session → Session → List ℕ → Result Summary ScriptFault → Type 0) (text : List ℕ) (inside : Option Session) (session next : Session) (old new : Held) (written : List ℕ) (went : Result Summary ScriptFault) (number : ℕ) → inside ≡ Some session → new.inside ≡ Some next → does session next written went → new.buffer ≡ with_front written old.buffer → IsTold text (length written) went new.told → number ≡ fault_number went → Uses does text inside old new number

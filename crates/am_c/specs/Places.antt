@@ -1,16 +1,10 @@
 -- Where a fault stands in its text, as C is told (docs/FORMATS.md, "Places of faults").
-use Rattle.std.specs.Prelude.{◌≡◌, ◌⊎◌, ℕ, List, Option, None, Some}
+use Rattle.std.specs.Prelude.{◌≡◌, ℕ, List, Option, None, Some}
 use Rattle.am_diagnosis.specs.Expectations.{expected_number}
-use Rattle.am_diagnosis.specs.Scripts.{IsJoined, IsSlipIn, lines_at}
 use Rattle.am_diagnosis.specs.declared.expected.Slip.{Slip}
-use Rattle.am_script.specs.{ScriptFault, lines_of}
+use Rattle.am_script.specs.{ScriptFault}
+use Rattle.am_session.specs.{HasSlip}
 use Rattle.am_c.specs.declared.place.AmPlace.{AmPlace}
-
--- it is the slip of the fault in this text, if it has one; or there is no memory for that of a line of
--- a map, which is joined for it
-abbrev pub HasSlip : List ℕ → ScriptFault → Option Slip → Type 0
-HasSlip text fault slip =
-    IsSlipIn fault.kind (lines_at fault.line (lines_of text)) slip ⊎ (IsJoined fault.kind × (slip ≡ None))
 
 -- the byte of the line at which it isn't as expected, if it is told
 abbrev pub column_of : Option Slip → ℕ

@@ -8,9 +8,10 @@ use Rattle.am_script.specs.declared.fault.ScriptFaultKind.TheVariants.{BadMaster
 use Rattle.am_diagnosis.specs.Expectations.{expected_number, expected_words}
 use Rattle.am_diagnosis.specs.declared.expected.Expected.{Expected}
 use Rattle.am_diagnosis.specs.declared.expected.Slip.{Slip}
+use Rattle.am_session.specs.{HasSlip}
 use Rattle.am_c.specs.declared.script.AmPlayed.{AmPlayed}
 use Rattle.am_c.specs.Buffer.{with_front}
-use Rattle.am_c.specs.Places.{HasSlip, column_of, expected_of}
+use Rattle.am_c.specs.Places.{column_of, expected_of}
 
 -- ---- what C is told
 

@@ -1,10 +1,10 @@
 //! A session as C keeps it.
 
 ghost use Rattle.std.specs.Prelude.{◌≡◌, ◌≢◌, None, Some, Option};
-ghost use Rattle.am_c.specs.declared.session.Session.{Session};
+ghost use Rattle.am_session.specs.{Session};
 
 use crate::loose::Loose;
-use crate::session::Session;
+use am_session::Session;
 use std::alloc::Global;
 use std::marker::Model;
 use std::ptr;
@@ -21,8 +21,8 @@ pub struct Kept {
 impl Model for Kept {
     ghost use Rattle.std.specs.Prelude.{Option};
     ghost use Rattle.am_c.specs.Kept.{keeps};
-    ghost use Rattle.am_c.specs.contracts.session.Session.{the_row as row};
-    ghost use Rattle.am_c.specs.declared.session.Session.{Session};
+    ghost use Rattle.am_session.specs.contracts.played.Session.{the_row as row};
+    ghost use Rattle.am_session.specs.{Session};
 
     ghost also_owns = { λ k. keeps row k.at k.inside };
 }

@@ -11,6 +11,5 @@ pub mod packet;
 pub mod place;
 pub mod request;
 pub mod script;
-mod session;
 pub mod trace;
 pub mod world;

@@ -1,10 +1,11 @@
 //! Where a fault stands in its text.
 
 ghost use Rattle.std.specs.Prelude.{◌≡◌};
-ghost use Rattle.am_c.specs.Places.{HasSlip, IsPlaceOf, column_of, expected_of};
+ghost use Rattle.am_c.specs.Places.{IsPlaceOf, column_of, expected_of};
 
-use am_diagnosis::{Slip, slip_in};
+use am_diagnosis::Slip;
 use am_script::ScriptFault;
+use am_session::slip_of;
 use std::alloc::Global;
 
 /// Where a text isn't as expected.
@@ -30,17 +31,6 @@ pub(crate) fn place_of(alloc: Global, text: &[u8], fault: ScriptFault) -> AmPlac
         column: column_of(slip),
         expected: expected_of(slip),
         pad: 0,
-    }
-}
-
-/// Where the line of the fault isn't as expected, and what was expected there. None too where there
-/// is no memory to join the line.
-pub(crate) fn slip_of(alloc: Global, text: &[u8], fault: ScriptFault) -> Option<Slip>
-    ensures { HasSlip text.now fault result }
-{
-    match slip_in(alloc, text, fault) {
-        Ok(slip) => slip,
-        Err(_) => None,
     }
 }
 

@@ -10,12 +10,13 @@ ghost use Rattle.am_c.specs.Buffer.{with_front};
 ghost use Rattle.am_c.specs.Scripts.{AreWordsOf, Fills, IsPlaced, IsTold, detail_number, fault_number, namespace_where, played_of};
 
 use crate::buffer::put_front;
-use crate::place::{column_of, expected_of, slip_of};
+use crate::place::{column_of, expected_of};
 use am_diagnosis::{Expected, Slip};
 use am_draw::draw_script;
 use am_mountinfo::world_script;
 use am_names::NsId;
 use am_script::{ScriptFault, ScriptFaultKind, Summary, run_script};
+use am_session::slip_of;
 use am_views::{TraceStyle, trace_script};
 use std::alloc::Global;
 

@@ -2,13 +2,14 @@
 
 ghost use Rattle.std.specs.Prelude.{◌≡◌, [], None, Some, IfOk, IfErr, IfNone, IfSome};
 ghost use Rattle.am_c.specs.Scripts.{namespace_where};
-ghost use Rattle.am_c.specs.Sessions.{IsBegun, News, NotBegun, Plays, TellsAnswer, TellsSeen, TellsWorld, Uses, held_count};
+ghost use Rattle.am_session.specs.{IsBegun, NotBegun, Plays, TellsAnswer, TellsSeen, TellsWorld};
+ghost use Rattle.am_c.specs.Sessions.{News, Uses, held_count};
 
 use crate::kept::Kept;
 use crate::loose::Loose;
 use crate::script::{AmPlayed, fault_number, namespace_where, tell, tell_of};
-use crate::session::{Session, begin, no_event, play_line, tell_answer, tell_seen, tell_world};
 use am_script::{ScriptFault, ScriptFaultKind};
+use am_session::{Session, begin, no_event, play_line, tell_answer, tell_seen, tell_world};
 use std::alloc::Global;
 use std::mem;
 

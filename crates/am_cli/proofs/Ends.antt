@@ -1,20 +1,21 @@
 -- Each way in which the program ends.
-use Rattle.std.proofs.Common.{◌≡◌, ℕ, Bool, List, Option, None, Some, refl, subst, ◌⊎◌, inl, inr, codes}
+use Rattle.std.proofs.Common.{◌≡◌, ℕ, Bool, List, [], Option, None, Some, refl, subst, ◌⊎◌, inl, inr, codes}
 use Rattle.std.specs.Io.KnownBytes.{Appends}
 use Rattle.am_mountinfo.specs.{ShowsInput, StopsShowing}
 use Rattle.am_recall.specs.declared.recalled.Recalled.{Recalled}
 use Rattle.am_runner.specs.{IsTally, Tally}
 use Rattle.am_script.specs.{PlaysInput, StopsInput, ScriptFault, Summary, answers_alone}
-use Rattle.am_cli.specs.{Exits, Played, Stopped, Traced, TraceStopped, Drawn, DrawStopped, Shown, ShowStopped, Judged, JudgeStopped, Imported, ImportStopped, Ran, Untold, NotRun, Helped, NotHelped, Versioned, NotVersioned, rounds_line, status_of_verdict, style_of, SaysWhole}
+use Rattle.am_cli.specs.{Exits, Played, Stopped, Traced, TraceStopped, Drawn, DrawStopped, Shown, ShowStopped, Judged, JudgeStopped, Served, ServeStopped, Imported, ImportStopped, Ran, Untold, NotRun, Helped, NotHelped, Versioned, NotVersioned, rounds_line, status_of_verdict, style_of, SaysWhole}
 use Rattle.am_cli.specs.Help.{help_text, version_line}
-use Rattle.am_cli.specs.Telling.{import_told, judge_told, Tells, TellsFault, word_told}
+use Rattle.am_cli.specs.Telling.{import_told, judge_told, script_told, Tells, TellsFault, word_told}
 use Rattle.am_draw.specs.{DrawsInput, StopsDrawing}
 use Rattle.am_import.specs.{ImportsInput, StopsImporting, ImportFault}
+use Rattle.am_serve.specs.{ServesInput, StopsServing}
 use Rattle.am_traces.specs.Judged.{JudgesInput, StopsJudging}
 use Rattle.am_traces.specs.declared.verdict.JudgeFault.{JudgeFault}
 use Rattle.am_traces.specs.declared.verdict.Verdict.{Verdict}
 use Rattle.am_views.specs.{TraceStyle, traced}
-use Rattle.am_cli.specs.declared.args.Args.TheVariants.{Script, Trace, Draw, World, Judge, Import, Threads, Help, Version}
+use Rattle.am_cli.specs.declared.args.Args.TheVariants.{Script, Trace, Draw, World, Serve, Judge, Import, Threads, Help, Version}
 use Rattle.am_cli.specs.declared.topics.Topic.{Topic}
 
 pub ends_played : (recalled : Recalled) (input rest old new quiet : Option (List ℕ)) (summary : Summary) → PlaysInput answers_alone input rest old new summary → Exits Script recalled input rest old new quiet quiet 0
@@ -40,6 +41,12 @@ ends_shown recalled only ns is input rest old new quiet summary shows = record {
 
 pub ends_show_stopped : (recalled : Recalled) (only ns : Option ℕ) → ns ≡ only → (input rest old new quiet told : Option (List ℕ)) (fault : ScriptFault) → StopsShowing ns input rest old new fault → TellsFault recalled fault quiet told → Exits (World only) recalled input rest old new quiet told 1
 ends_show_stopped recalled only ns is input rest old new quiet told fault stops tells = record { end = ShowStopped ns fault; asked_is = cc; status_is = refl; streams = (stops, tells) }
+
+pub ends_served : (recalled : Recalled) (input rest old new quiet : Option (List ℕ)) → ServesInput input rest old new → Exits Serve recalled input rest old new quiet quiet 0
+ends_served recalled input rest old new quiet serves = record { end = Served; asked_is = refl; status_is = refl; streams = (serves, refl) }
+
+pub ends_serve_stopped : (recalled : Recalled) (input rest old new quiet told : Option (List ℕ)) (fault : ScriptFault) → StopsServing input rest old new fault → Tells quiet told (script_told fault []) → Exits Serve recalled input rest old new quiet told 1
+ends_serve_stopped recalled input rest old new quiet told fault stops tells = record { end = ServeStopped fault; asked_is = refl; status_is = refl; streams = (stops, tells) }
 
 pub ends_judged : (recalled : Recalled) (input rest old new quiet : Option (List ℕ)) (verdict : Verdict) (status : ℕ) → JudgesInput input rest old new verdict → status ≡ status_of_verdict verdict → Exits Judge recalled input rest old new quiet quiet status
 ends_judged recalled input rest old new quiet verdict status judges e = record { end = Judged verdict; asked_is = refl; status_is = e; streams = (judges, refl) }

@@ -2,7 +2,7 @@
 -- (docs/FORMATS.md, "The program").
 use Rattle.std.specs.Prelude.{ℕ, ◌≤◌, ⊤, Option, None, Some}
 use Rattle.am_cli.specs.declared.args.Args.{Args}
-use Rattle.am_cli.specs.declared.args.Args.TheVariants.{Script, Trace, Draw, World, Judge, Import, Threads, Help, Version}
+use Rattle.am_cli.specs.declared.args.Args.TheVariants.{Script, Trace, Draw, World, Serve, Judge, Import, Threads, Help, Version}
 use Rattle.am_cli.specs.declared.args.ArgsFault.{ArgsFault}
 use Rattle.am_cli.specs.declared.args.ArgsFault.TheVariants.{NoMemory, Usage}
 
@@ -26,6 +26,7 @@ IsInRange Script = ⊤
 IsInRange (Trace plain) = ⊤
 IsInRange (Draw first last) = IsUpTo 4294967295 first × IsUpTo 4294967295 last
 IsInRange (World namespace) = IsNumberUpTo 4294967295 namespace
+IsInRange Serve = ⊤
 IsInRange Judge = ⊤
 IsInRange Import = ⊤
 IsInRange (Threads walkers workers rounds) = IsUpTo 16 walkers × IsUpTo 16 workers × IsUpTo 1000 rounds

@@ -11,7 +11,7 @@ use Rattle.clap.specs.Simple.{on_top}
 use Rattle.clap.specs.declared.builder.action.ArgAction.TheVariants.{Set, SetTrue}
 use Rattle.clap.specs.declared.builder.value_parser.ValueParser.TheVariants.{Signed}
 use Rattle.am_cli.specs.declared.args.Args.{Args}
-use Rattle.am_cli.specs.declared.args.Args.TheVariants.{Script, Trace, Draw, World, Judge, Import, Threads, Help, Version}
+use Rattle.am_cli.specs.declared.args.Args.TheVariants.{Script, Trace, Draw, World, Serve, Judge, Import, Threads, Help, Version}
 use Rattle.am_cli.specs.declared.args.ArgsFault.{ArgsFault}
 use Rattle.am_cli.specs.declared.args.ArgsFault.TheVariants.{NoMemory, Usage}
 use Rattle.am_cli.specs.declared.topics.Topic.{Topic}
@@ -55,6 +55,10 @@ draw_app =
 abbrev pub world_app : App
 world_app = with_rule (new_app (codes "world")) (number_rule (codes "namespace"))
 
+-- the command `serve`, which has no options
+abbrev pub serve_app : App
+serve_app = new_app (codes "serve")
+
 -- the command `judge`, which has no options
 abbrev pub judge_app : App
 judge_app = new_app (codes "judge")
@@ -83,7 +87,7 @@ bare_program =
     (on_top (λ s. record s { disable_help_subcommand = true })
     (on_top (λ s. record s { subcommand_required = true }) (new_app (codes "automount_cli"))))
 
--- the program, with its eight commands
+-- the program, with its nine commands
 abbrev pub cli : App
 cli =
     with_subcommand
@@ -92,9 +96,11 @@ cli =
     (with_subcommand
     (with_subcommand
     (with_subcommand
+    (with_subcommand
     (with_subcommand (with_subcommand bare_program script_app.top) trace_app.top)
     draw_app.top)
     world_app.top)
+    serve_app.top)
     judge_app.top)
     import_app.top)
     threads_app.top)
@@ -143,6 +149,7 @@ AsksFor topics.Trace rows (Trace plain) = flagged (first_of (codes "plain") rows
 AsksFor topics.Draw rows (Draw first last) =
     IsNumber rows (codes "from") first × IsNumber rows (codes "to") last
 AsksFor topics.World rows (World namespace) = IsNumberIn rows (codes "namespace") namespace
+AsksFor topics.Serve rows Serve = ⊤
 AsksFor topics.Judge rows Judge = ⊤
 AsksFor topics.Import rows Import = ⊤
 AsksFor topics.Threads rows (Threads walkers workers rounds) =

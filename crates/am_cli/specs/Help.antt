@@ -26,14 +26,15 @@ program_help =
     ++ (codes "             --from N, --to N  draw the events from one number to another\n"
     ++ (codes "  world    reads a script, and writes the world that it leaves\n"
     ++ (codes "             --namespace N     writes the mounts of one namespace alone\n"
+    ++ (codes "  serve    reads lines, and answers each as it comes: events and questions\n"
     ++ (codes "  judge    reads a trace, and writes whether it is lawful\n"
     ++ (codes "  import   reads mountinfo, and writes a script that builds its mounts\n"
     ++ (codes "  threads  runs threads over one world, and writes how many rounds they made\n"
     ++ (codes "             --walkers N, --workers N, --rounds N\n"
     ++ (codes "  help     writes this, or what a COMMAND does; so do --help and -h\n\n"
     ++ (codes "--version and -V write the version.\n"
-    ++ (codes "Exit status: 0 done; 1 a fault, told on standard error, or a trace that breaks\n"
-    ++ codes "a law; 2 no command line.\nExample: echo events | automount_cli world\n")))))))))))))))))
+    ++ (codes "Exit status: 0 done; 1 a fault, or a trace that breaks a law; 2 no command line.\n"
+    ++ codes "Example: echo events | automount_cli world\n"))))))))))))))))))
 
 -- what help says of the command `script`
 abbrev pub script_help : List ℕ
@@ -82,6 +83,26 @@ world_help =
     ++ (codes "Exit status: 0 the world was written to its end; 1 a fault, told on standard\n"
     ++ codes "error with its line.\nExample: automount_cli world --namespace 0 < FILE\n"))))))
 
+-- what help says of the command `serve`
+abbrev pub serve_help : List ℕ
+serve_help =
+    codes "Usage: automount_cli serve\n\n"
+    ++ (codes "Reads lines, and answers each before it waits for the next: by no line or more,\n"
+    ++ (codes "and then by a line that is just a dot. The lines up to events are the head of a\n"
+    ++ (codes "script. Behind it a line is an event, a question or a command; one that is none\n"
+    ++ (codes "of these is answered by its fault, and nothing has changed.\n\n"
+    ++ (codes "  ?trace             what the last event showed\n"
+    ++ (codes "  ?world, ?world N   the world as it is, or the mounts of one namespace\n"
+    ++ (codes "  ?next JOB          what a job does next\n"
+    ++ (codes "  ?waiting W         the token on which a walker waits\n"
+    ++ (codes "  ?lawful            whether all that was observed is lawful\n"
+    ++ (codes "  !reset             another head begins\n\n"
+    ++ (codes "Options:\n"
+    ++ (codes "  -h, --help  write this\n\n"
+    ++ (codes "Exit status: 0 the input came to its end; 1 a fault of a stream, told on\n"
+    ++ (codes "standard error with its line.\n"
+    ++ codes "Example: echo '!reset' | automount_cli serve\n"))))))))))))))
+
 -- what help says of the command `judge`
 abbrev pub judge_help : List ℕ
 judge_help =
@@ -129,7 +150,7 @@ help_help =
 -- the command lines that there are
 abbrev pub usage_text : List ℕ
 usage_text =
-    codes "usage: automount_cli script|judge|import < FILE\n"
+    codes "usage: automount_cli script|serve|judge|import < FILE\n"
     ++ (codes "       automount_cli trace [--plain] < FILE\n"
     ++ (codes "       automount_cli draw [--from N] [--to N] < FILE\n"
     ++ (codes "       automount_cli world [--namespace N] < FILE\n"
@@ -143,6 +164,7 @@ help_text (Some topics.Script) = script_help
 help_text (Some topics.Trace) = trace_help
 help_text (Some topics.Draw) = draw_help
 help_text (Some topics.World) = world_help
+help_text (Some topics.Serve) = serve_help
 help_text (Some topics.Judge) = judge_help
 help_text (Some topics.Import) = import_help
 help_text (Some topics.Threads) = threads_help

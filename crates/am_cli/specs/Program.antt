@@ -7,6 +7,7 @@ use Rattle.am_mountinfo.specs.{ShowsInput, StopsShowing}
 use Rattle.am_recall.specs.declared.recalled.Recalled.{Recalled}
 use Rattle.am_runner.specs.{IsTally, Tally}
 use Rattle.am_script.specs.{PlaysInput, StopsInput, ScriptFault, Summary, answers_alone}
+use Rattle.am_serve.specs.{ServesInput, StopsServing}
 use Rattle.am_draw.specs.{DrawsInput, StopsDrawing}
 use Rattle.am_traces.specs.Judged.{JudgesInput, StopsJudging}
 use Rattle.am_traces.specs.declared.verdict.JudgeFault.{JudgeFault}
@@ -19,11 +20,11 @@ use Rattle.am_cli.specs.Args.{fault_number}
 use Rattle.am_cli.specs.CommandLine.{IsAsked, IsRefused}
 use Rattle.am_cli.specs.Help.{help_text, version_line}
 use Rattle.am_cli.specs.Hints.{IsHint, usage_told}
-use Rattle.am_cli.specs.Telling.{import_told, IsCut, judge_told, Tells, TellsFault, word_told}
+use Rattle.am_cli.specs.Telling.{import_told, IsCut, judge_told, script_told, Tells, TellsFault, word_told}
 use Rattle.am_cli.specs.declared.hints.Hint.{Hint}
 use Rattle.am_cli.specs.declared.topics.Topic.{Topic}
 use Rattle.am_cli.specs.declared.args.Args.{Args}
-use Rattle.am_cli.specs.declared.args.Args.TheVariants.{Script, Trace, Draw, World, Judge, Import, Threads, Help, Version}
+use Rattle.am_cli.specs.declared.args.Args.TheVariants.{Script, Trace, Draw, World, Serve, Judge, Import, Threads, Help, Version}
 use Rattle.am_cli.specs.declared.args.ArgsFault.{ArgsFault}
 use Rattle.am_cli.specs.declared.args.ArgsFault.TheVariants.{NoMemory, Usage}
 
@@ -53,6 +54,10 @@ pub data End : Type 0 where
   Shown : Option ℕ → Summary → End
   -- it isn't printed to its end
   ShowStopped : Option ℕ → ScriptFault → End
+  -- the session is served to the end of its lines
+  Served : End
+  -- it isn't
+  ServeStopped : ScriptFault → End
   -- the trace is judged, and its verdict is written
   Judged : Verdict → End
   -- its verdict isn't written whole
@@ -92,6 +97,8 @@ status_of (Drawn first last summary) = 0
 status_of (DrawStopped first last fault) = 1
 status_of (Shown only summary) = 0
 status_of (ShowStopped only fault) = 1
+status_of Served = 0
+status_of (ServeStopped fault) = 1
 status_of (Judged verdict) = status_of_verdict verdict
 status_of (JudgeStopped fault) = 1
 status_of Imported = 0
@@ -114,6 +121,8 @@ asked_of (Drawn first last summary) = Draw first last
 asked_of (DrawStopped first last fault) = Draw first last
 asked_of (Shown only summary) = World only
 asked_of (ShowStopped only fault) = World only
+asked_of Served = Serve
+asked_of (ServeStopped fault) = Serve
 asked_of (Judged verdict) = Judge
 asked_of (JudgeStopped fault) = Judge
 asked_of Imported = Import
@@ -127,7 +136,7 @@ asked_of Versioned = Version
 asked_of NotVersioned = Version
 
 -- What is read and written, and what is told of it: nothing is told of a script that is played,
--- traced or drawn to its end, or whose world is printed, nor of a trace that is judged, a mountinfo that is imported,
+-- traced or drawn to its end, or whose world is printed, nor of a session that is served, a trace that is judged, a mountinfo that is imported,
 -- threads whose rounds stand written, or help and a version that do. Else the fault is told; that of a script with
 -- what the reader recalls of it.
 -- Threads, help and the version read nothing. Nothing is written where threads don't run.
@@ -147,6 +156,9 @@ Leaves (DrawStopped first last fault) recalled input rest old new quiet told =
 Leaves (Shown only summary) recalled input rest old new quiet told = ShowsInput only input rest old new summary × (told ≡ quiet)
 Leaves (ShowStopped only fault) recalled input rest old new quiet told =
     StopsShowing only input rest old new fault × TellsFault recalled fault quiet told
+Leaves Served recalled input rest old new quiet told = ServesInput input rest old new × (told ≡ quiet)
+Leaves (ServeStopped fault) recalled input rest old new quiet told =
+    StopsServing input rest old new fault × Tells quiet told (script_told fault [])
 Leaves (Judged verdict) recalled input rest old new quiet told = JudgesInput input rest old new verdict × (told ≡ quiet)
 Leaves (JudgeStopped fault) recalled input rest old new quiet told =
     StopsJudging input rest old new fault × Tells quiet told (judge_told fault)

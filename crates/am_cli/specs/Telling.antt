@@ -5,15 +5,11 @@ use Rattle.std.specs.Io.KnownBytes.{Appends}
 use Rattle.am_explain.specs.{HelpsWith}
 use Rattle.am_import.specs.{ImportFault}
 use Rattle.am_import.specs.declared.imports.ImportFault.TheVariants as unmade
-use Rattle.am_map.specs.{MapFaultKind}
-use Rattle.am_map.specs.declared.fault.MapFaultKind.TheVariants as of_map
-use Rattle.am_master.specs.{MasterFaultKind}
-use Rattle.am_master.specs.declared.fault.MasterFaultKind.TheVariants as of_master
 use Rattle.am_mount_lines.specs.declared.misfit.Expected.{Expected as MountExpected}
 use Rattle.am_mount_lines.specs.declared.misfit.Expected.TheVariants as in_mounts
 use Rattle.am_recall.specs.declared.recalled.Recalled.{Recalled}
-use Rattle.am_script.specs.{ScriptFault, ScriptFaultKind}
-use Rattle.am_script.specs.declared.fault.ScriptFaultKind.TheVariants as of_script
+use Rattle.am_script.specs.{ScriptFault}
+use Rattle.am_serve.specs.{kind_word}
 use Rattle.am_traces.specs.declared.fault.Expected.{Expected as TraceExpected}
 use Rattle.am_traces.specs.declared.fault.Expected.TheVariants as in_trace
 use Rattle.am_traces.specs.declared.verdict.JudgeFault.{JudgeFault}
@@ -49,37 +45,6 @@ place_told line column expected =
     ∷ codes " expected\n" ∷ [])
 
 -- ---- the faults of a script
-
--- the word for a fault of a map section
-abbrev pub map_word : MapFaultKind → List ℕ
-map_word of_map.BadKey = codes "BadKey"
-map_word of_map.BadOption = codes "BadOption"
-map_word of_map.NoLocation = codes "NoLocation"
-map_word of_map.BadLocation = codes "BadLocation"
-map_word of_map.NoMemory = codes "NoMemory"
-
--- the word for a fault of the master section
-abbrev pub master_word : MasterFaultKind → List ℕ
-master_word of_master.BadPoint = codes "BadPoint"
-master_word of_master.NoMap = codes "NoMap"
-master_word of_master.BadType = codes "BadType"
-master_word of_master.BadTimeout = codes "BadTimeout"
-master_word of_master.Twice = codes "Twice"
-master_word of_master.NoMemory = codes "NoMemory"
-
--- the word for a fault of a script
-abbrev pub kind_word : ScriptFaultKind → List ℕ
-kind_word of_script.BadSection = codes "BadSection"
-kind_word of_script.BadLimits = codes "BadLimits"
-kind_word (of_script.BadMaster kind) = master_word kind
-kind_word (of_script.BadMap kind) = map_word kind
-kind_word of_script.NoSuchMap = codes "NoSuchMap"
-kind_word of_script.BadEvent = codes "BadEvent"
-kind_word of_script.LongLine = codes "LongLine"
-kind_word of_script.NoMemory = codes "NoMemory"
-kind_word of_script.ReadFailed = codes "ReadFailed"
-kind_word of_script.WriteFailed = codes "WriteFailed"
-kind_word of_script.NoSuchNamespace = codes "NoSuchNamespace"
 
 -- what is told of it, with this below it
 abbrev pub script_told : ScriptFault → List ℕ → List ℕ

@@ -36,6 +36,8 @@ pub enum Args {
         /// Only the mounts of this namespace, if one is named.
         namespace: Option<u32>,
     },
+    /// Serves the session on standard input.
+    Serve,
     /// Judges the trace on standard input.
     Judge,
     /// Makes a script of the mountinfo on standard input.
@@ -206,6 +208,7 @@ fn asked(topic: Topic, given: &ArgMatches<'_>) -> Result<Args, ArgsFault>
         Topic::Trace => trace(given),
         Topic::Draw => draw(given),
         Topic::World => world(given),
+        Topic::Serve => Ok(Args::Serve),
         Topic::Judge => Ok(Args::Judge),
         Topic::Import => Ok(Args::Import),
         Topic::Threads => threads(given),

@@ -89,6 +89,7 @@ pub(crate) fn command<'a>(alloc: Global) -> Result<Command<'a>, AllocError>
         .subcommand(trace_command(alloc)?)?
         .subcommand(draw_command(alloc)?)?
         .subcommand(world_command(alloc)?)?
+        .subcommand(Command::new(alloc, "serve"))?
         .subcommand(Command::new(alloc, "judge"))?
         .subcommand(Command::new(alloc, "import"))?
         .subcommand(threads_command(alloc)?)?

@@ -1,7 +1,7 @@
 //! What help and the version say, and how the program is used.
 
 ghost use Rattle.std.specs.Prelude.{◌≡◌};
-ghost use Rattle.am_cli.specs.Help.{help_text, version, program_help, script_help, trace_help, draw_help, world_help, judge_help, import_help, threads_help, help_help, usage_text};
+ghost use Rattle.am_cli.specs.Help.{help_text, version, program_help, script_help, trace_help, draw_help, world_help, serve_help, judge_help, import_help, threads_help, help_help, usage_text};
 
 use crate::topics::Topic;
 
@@ -28,6 +28,7 @@ Commands:
              --from N, --to N  draw the events from one number to another
   world    reads a script, and writes the world that it leaves
              --namespace N     writes the mounts of one namespace alone
+  serve    reads lines, and answers each as it comes: events and questions
   judge    reads a trace, and writes whether it is lawful
   import   reads mountinfo, and writes a script that builds its mounts
   threads  runs threads over one world, and writes how many rounds they made
@@ -35,8 +36,7 @@ Commands:
   help     writes this, or what a COMMAND does; so do --help and -h
 
 --version and -V write the version.
-Exit status: 0 done; 1 a fault, told on standard error, or a trace that breaks
-a law; 2 no command line.
+Exit status: 0 done; 1 a fault, or a trace that breaks a law; 2 no command line.
 Example: echo events | automount_cli world
 "
 }
@@ -113,6 +113,32 @@ Options:
 Exit status: 0 the world was written to its end; 1 a fault, told on standard
 error with its line.
 Example: automount_cli world --namespace 0 < FILE
+"
+}
+
+fn serve_help() -> &'static [u8]
+    ensures { result.now ≡ serve_help }
+{
+    b"Usage: automount_cli serve
+
+Reads lines, and answers each before it waits for the next: by no line or more,
+and then by a line that is just a dot. The lines up to events are the head of a
+script. Behind it a line is an event, a question or a command; one that is none
+of these is answered by its fault, and nothing has changed.
+
+  ?trace             what the last event showed
+  ?world, ?world N   the world as it is, or the mounts of one namespace
+  ?next JOB          what a job does next
+  ?waiting W         the token on which a walker waits
+  ?lawful            whether all that was observed is lawful
+  !reset             another head begins
+
+Options:
+  -h, --help  write this
+
+Exit status: 0 the input came to its end; 1 a fault of a stream, told on
+standard error with its line.
+Example: echo '!reset' | automount_cli serve
 "
 }
 
@@ -195,6 +221,7 @@ pub(crate) fn help_text(topic: Option<Topic>) -> &'static [u8]
         Some(Topic::Trace) => trace_help(),
         Some(Topic::Draw) => draw_help(),
         Some(Topic::World) => world_help(),
+        Some(Topic::Serve) => serve_help(),
         Some(Topic::Judge) => judge_help(),
         Some(Topic::Import) => import_help(),
         Some(Topic::Threads) => threads_help(),
@@ -206,7 +233,7 @@ pub(crate) fn help_text(topic: Option<Topic>) -> &'static [u8]
 pub(crate) fn usage() -> &'static [u8]
     ensures { result.now ≡ usage_text }
 {
-    b"usage: automount_cli script|judge|import < FILE
+    b"usage: automount_cli script|serve|judge|import < FILE
        automount_cli trace [--plain] < FILE
        automount_cli draw [--from N] [--to N] < FILE
        automount_cli world [--namespace N] < FILE

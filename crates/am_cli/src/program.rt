@@ -12,7 +12,9 @@ ghost use Rattle.am_cli.specs.declared.args.Args.TheVariants as asks;
 use crate::args::{Args, ArgsFault, read_args};
 use crate::help::{help_text, version};
 use crate::hints::hint_for;
-use crate::telling::{tell_fault, tell_import, tell_judge, tell_usage, tell_word, write_parts};
+use crate::telling::{
+    tell_fault, tell_import, tell_judge, tell_script, tell_usage, tell_word, write_parts,
+};
 use crate::topics::Topic;
 use am_draw::draw_script;
 use am_import::import;
@@ -21,6 +23,7 @@ use am_names::NsId;
 use am_recall::Recalling;
 use am_runner::{Tally, run_threads};
 use am_script::run_script;
+use am_serve::serve;
 use am_traces::{Verdict, judge_trace};
 use am_views::{TraceStyle, trace_script};
 use itoa::Buffer;
@@ -70,6 +73,7 @@ fn run_asked<T: Threads + Wait + Sync, R: Read, W: Write, E: Write>(
         Args::Script => play(alloc, reader, writer, errors),
         Args::Trace { plain } => trace(alloc, plain, reader, writer, errors),
         Args::Draw { first, last } => draw(alloc, first, last, reader, writer, errors),
+        Args::Serve => serve_lines(alloc, &mut reader.reader, writer, errors),
         Args::Judge => judge(alloc, &mut reader.reader, writer, errors),
         Args::Import => import_mounts(alloc, &mut reader.reader, writer, errors),
         Args::World { namespace } => show(alloc, reader, writer, errors, namespace),
@@ -222,6 +226,26 @@ fn show<R: Read, W: Write, E: Write>(
         Ok(_shown) => 0,
         Err(fault) => {
             tell_fault(alloc, &reader.recalled, fault, errors);
+            1
+        }
+    }
+}
+
+/// Serves the session of which the reader gives the lines.
+fn serve_lines<R: Read, W: Write, E: Write>(
+    alloc: Global,
+    reader: &mut R,
+    writer: &mut W,
+    errors: &mut E,
+) -> u8
+    ensures { (recalled : Recalled) → Exits asks.Serve recalled (R.remaining reader.old) (R.remaining reader.new)
+        (W.contents writer.old) (W.contents writer.new) (E.contents errors.old)
+        (E.contents errors.new) result }
+{
+    match serve(alloc, reader, writer) {
+        Ok(()) => 0,
+        Err(fault) => {
+            tell_script(errors, fault, b"");
             1
         }
     }

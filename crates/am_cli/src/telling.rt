@@ -4,18 +4,17 @@ ghost use Rattle.std.specs.Prelude.{◌≡◌, true, false};
 ghost use Rattle.std.specs.List.{flat_map};
 ghost use Rattle.std.specs.Io.KnownBytes.{Appends};
 ghost use Rattle.am_cli.specs.Hints.{hint_told, usage_told};
-ghost use Rattle.am_cli.specs.Telling.{import_told, IsCut, judge_told, kind_word, line_told, map_word, master_word, mount_words, place_told, script_told, Tells, TellsFault, trace_words, word_told};
+ghost use Rattle.am_cli.specs.Telling.{import_told, IsCut, judge_told, line_told, mount_words, place_told, script_told, Tells, TellsFault, trace_words, word_told};
 
 use crate::help::usage;
 use crate::hints::Hint;
 use am_explain::help;
 use am_import::ImportFault;
-use am_map::MapFaultKind;
-use am_master::MasterFaultKind;
 use am_mount_lines::Expected as MountExpected;
 use am_recall::Recalled;
+use am_script::ScriptFault;
 use am_script::output::write_bytes;
-use am_script::{ScriptFault, ScriptFaultKind};
+use am_serve::kind_word;
 use am_traces::{Expected as TraceExpected, JudgeFault};
 use itoa::Buffer;
 use std::alloc::Global;
@@ -100,49 +99,6 @@ fn tell_place<E: Write>(errors: &mut E, line: usize, column: usize, expected: &s
     );
 }
 
-fn map_word(kind: MapFaultKind) -> &'static str
-    ensures { result.now ≡ map_word kind }
-{
-    match kind {
-        MapFaultKind::BadKey => "BadKey",
-        MapFaultKind::BadOption => "BadOption",
-        MapFaultKind::NoLocation => "NoLocation",
-        MapFaultKind::BadLocation => "BadLocation",
-        MapFaultKind::NoMemory => "NoMemory",
-    }
-}
-
-fn master_word(kind: MasterFaultKind) -> &'static str
-    ensures { result.now ≡ master_word kind }
-{
-    match kind {
-        MasterFaultKind::BadPoint => "BadPoint",
-        MasterFaultKind::NoMap => "NoMap",
-        MasterFaultKind::BadType => "BadType",
-        MasterFaultKind::BadTimeout => "BadTimeout",
-        MasterFaultKind::Twice => "Twice",
-        MasterFaultKind::NoMemory => "NoMemory",
-    }
-}
-
-fn kind_word(kind: ScriptFaultKind) -> &'static str
-    ensures { result.now ≡ kind_word kind }
-{
-    match kind {
-        ScriptFaultKind::BadSection => "BadSection",
-        ScriptFaultKind::BadLimits => "BadLimits",
-        ScriptFaultKind::BadMaster { kind } => master_word(kind),
-        ScriptFaultKind::BadMap { kind } => map_word(kind),
-        ScriptFaultKind::NoSuchMap => "NoSuchMap",
-        ScriptFaultKind::BadEvent => "BadEvent",
-        ScriptFaultKind::LongLine => "LongLine",
-        ScriptFaultKind::NoMemory => "NoMemory",
-        ScriptFaultKind::ReadFailed => "ReadFailed",
-        ScriptFaultKind::WriteFailed => "WriteFailed",
-        ScriptFaultKind::NoSuchNamespace => "NoSuchNamespace",
-    }
-}
-
 fn trace_words(expected: TraceExpected) -> &'static str
     ensures { result.now ≡ trace_words expected }
 {
@@ -180,7 +136,7 @@ fn mount_words(expected: MountExpected) -> &'static str
 }
 
 /// Tells why a script isn't played to its end, and this below it.
-fn tell_script<E: Write>(errors: &mut E, fault: ScriptFault, below: &[u8])
+pub(crate) fn tell_script<E: Write>(errors: &mut E, fault: ScriptFault, below: &[u8])
     ensures { Tells (E.contents errors.old) (E.contents errors.new) (script_told fault below.now) }
 {
     tell_line(errors, fault.line, kind_word(fault.kind), below);

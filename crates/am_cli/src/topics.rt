@@ -10,6 +10,7 @@ pub enum Topic {
     Trace,
     Draw,
     World,
+    Serve,
     Judge,
     Import,
     Threads,
@@ -17,11 +18,12 @@ pub enum Topic {
 }
 
 /// All commands, in the order of help.
-pub(crate) static TOPICS: [Topic; 8] = [
+pub(crate) static TOPICS: [Topic; 9] = [
     Topic::Script,
     Topic::Trace,
     Topic::Draw,
     Topic::World,
+    Topic::Serve,
     Topic::Judge,
     Topic::Import,
     Topic::Threads,
@@ -38,6 +40,7 @@ impl Topic {
             Topic::Trace => "trace",
             Topic::Draw => "draw",
             Topic::World => "world",
+            Topic::Serve => "serve",
             Topic::Judge => "judge",
             Topic::Import => "import",
             Topic::Threads => "threads",
@@ -54,6 +57,7 @@ impl Topic {
             Topic::Trace => true,
             Topic::Draw => true,
             Topic::World => true,
+            Topic::Serve => true,
             Topic::Judge => true,
             Topic::Import => true,
             Topic::Threads => false,
@@ -70,6 +74,7 @@ impl Topic {
             Topic::Trace => "script",
             Topic::Draw => "script",
             Topic::World => "script",
+            Topic::Serve => "session",
             Topic::Judge => "trace",
             Topic::Import => "mountinfo",
             Topic::Threads => "nothing",
@@ -99,6 +104,9 @@ pub(crate) fn topic_named(word: &str) -> Option<Topic>
     }
     if is_word(word, "world") {
         return Some(Topic::World);
+    }
+    if is_word(word, "serve") {
+        return Some(Topic::Serve);
     }
     if is_word(word, "judge") {
         return Some(Topic::Judge);

@@ -1,6 +1,6 @@
 use Rattle.std.proofs.Common.{[], refl, subst}
-use Rattle.am_c.specs.declared.session.Session.{Session}
-use Rattle.am_c.specs.Sessions.{IsAnswer, TellsAnswer}
+use Rattle.am_session.specs.{Session}
+use Rattle.am_session.specs.{IsAnswer, TellsAnswer}
 use Rattle.am_c.proofs.SessionLemmas.{uses_held}
 use Rattle.am_c.proofs.world.am_answer.Goals as goal
 

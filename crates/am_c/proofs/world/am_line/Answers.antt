@@ -1,5 +1,5 @@
 use Rattle.std.proofs.Common.{Some, ap, sym, ◌∙◌}
-use Rattle.am_c.specs.Sessions.{Plays}
+use Rattle.am_session.specs.{Plays}
 use Rattle.am_c.proofs.SessionLemmas.{uses_held}
 use Rattle.am_c.proofs.world.am_line.Goals as goal
 

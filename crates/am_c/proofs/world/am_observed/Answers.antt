@@ -1,7 +1,7 @@
 use Rattle.std.proofs.Common.{[], refl, subst}
 use Rattle.am_views.specs.{obs_lines}
-use Rattle.am_c.specs.declared.session.Session.{Session}
-use Rattle.am_c.specs.Sessions.{IsText, TellsSeen, no_event, seen_last}
+use Rattle.am_session.specs.{Session}
+use Rattle.am_session.specs.{IsText, TellsSeen, no_event, seen_last}
 use Rattle.am_c.proofs.SessionLemmas.{uses_held}
 use Rattle.am_c.proofs.world.am_observed.Goals as goal
 

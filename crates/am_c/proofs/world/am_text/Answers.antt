@@ -1,8 +1,8 @@
 use Rattle.std.proofs.Common.{[], ℕ, Option, refl, subst}
 use Rattle.am_world.specs.Capacity.{state_of}
-use Rattle.am_c.specs.declared.session.Session.{Session}
+use Rattle.am_session.specs.{Session}
 use Rattle.am_c.specs.Scripts.{namespace_where}
-use Rattle.am_c.specs.Sessions.{IsShown, TellsWorld}
+use Rattle.am_session.specs.{IsShown, TellsWorld}
 use Rattle.am_c.proofs.SessionLemmas.{uses_held}
 use Rattle.am_c.proofs.world.am_text.Goals as goal
 

@@ -17,7 +17,7 @@ use denote.Signature.{types_at}
 use denote.Steps.{nothing}
 use denote.Triple.Walked.{Stays, walk_of}
 use Rattle.std.proofs.raw_atomic.Walks.{proved_at, leaves}
-use Rattle.am_c.specs.declared.session.Session.{Session}
+use Rattle.am_session.specs.{Session}
 use Rattle.am_c.proofs.KeptLemmas.{word, kept_in}
 use Rattle.am_c.specs.contracts.kept.Kept.none as f
 use Rattle.am_c.specs.contracts.kept.Kept.none.Key.{name as #self}

@@ -28,8 +28,8 @@ use Rattle.std.specs.contracts.impls.GlobalAllocator.TheImpl.{ghosts}
 use Rattle.std.proofs.raw_atomic.Walks.{proved_at, leaves}
 use Rattle.am_c.specs.Kept.{keeps}
 use Rattle.am_c.specs.contracts.kept.Kept as kept
-use Rattle.am_c.specs.contracts.session.Session as session
-use Rattle.am_c.specs.declared.session.Session.{Session}
+use Rattle.am_session.specs.contracts.played.Session as session
+use Rattle.am_session.specs.{Session}
 use Rattle.am_c.proofs.KeptLemmas.{word, kept_in}
 use Rattle.am_c.proofs.LooseLemmas.{both, Loose, loose_good, loose_out}
 use Rattle.am_c.specs.contracts.kept.Kept.of as f

@@ -1,0 +1,4 @@
+mod HeadLemmas
+mod ReadingLemmas
+mod ReplyLemmas
+mod SendLemmas

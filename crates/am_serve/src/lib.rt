@@ -1,0 +1,21 @@
+//! A session over a reader and a writer: each line is answered before the next is awaited.
+#![tactic(auto)]
+
+mod answering;
+pub mod complaints;
+pub mod head;
+mod hear;
+mod held;
+mod number;
+mod reading;
+pub mod request;
+pub mod stands;
+mod tell;
+pub mod telling;
+mod text;
+mod word;
+
+pub use answering::reply;
+pub use complaints::{Complaint, kind_word};
+pub use reading::serve;
+pub use stands::{Serving, Stand};
