@@ -20,7 +20,7 @@ pub use KnownAt.{known_row}
 pub use JobTable.{AreKnown, IsSingle, JobRows, has_turn, is_among, tokens_of}
 pub use Packets.{is_pending, mounted_for, mounted_in, name_in, pending, pending_of, plan_of_packet, trigger_of}
 pub use Points.{Line, entry_of, has_key, has_point, line_timeout, lines_of, point_of}
-pub use State.{DaemonState, DaemonTable, JobPlan, job_plan, rows_of}
+pub use State.{DaemonState, DaemonTable, IsCopy, JobPlan, job_plan, rows_of}
 pub use declared.acts.Writing.{Writing}
 pub use declared.fault.DaemonFault.{DaemonFault}
 pub use declared.served.Point.{Point}

@@ -1,6 +1,6 @@
 -- The daemon as a value (autofs.rst, "Communicating with autofs: the event pipe"; what it keeps is
 -- an own choice, docs/DECISIONS.md, "The daemon records before it replies").
-use Rattle.std.specs.Prelude.{ℕ, List, [], map}
+use Rattle.std.specs.Prelude.{◌≡◌, ◌≤◌, ℕ, List, [], map}
 use Rattle.am_names.specs.declared.trigger.Trigger.{Trigger}
 use Rattle.am_map.specs.{Row}
 use Rattle.am_master.specs.MasterRow.{MasterRow}
@@ -61,6 +61,10 @@ rows_of t = record {
   book = t.book;
   jobs = map job_plan t.jobs;
 }
+
+-- a copy: the same but for the room, which is no less
+abbrev pub IsCopy : DaemonTable → DaemonTable → Type 0
+IsCopy old new = (record new { attach_room = old.attach_room } ≡ old) × (old.attach_room ≤ new.attach_room)
 
 -- of this master map and these maps; nothing is attached, and the book is empty
 abbrev pub initial : List MasterRow → List (List Row) → DaemonState

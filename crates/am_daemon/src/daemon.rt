@@ -1,8 +1,8 @@
 //! The daemon as a value.
 
-ghost use Rattle.std.specs.Prelude.{◌≡◌};
+ghost use Rattle.std.specs.Prelude.{◌≡◌, IfOk};
 ghost use Rattle.am_job.specs.{record_of};
-ghost use Rattle.am_daemon.specs.State.{initial, rows_of};
+ghost use Rattle.am_daemon.specs.State.{IsCopy, initial, rows_of};
 
 use crate::held::HeldTable;
 use crate::job_table::JobTable;
@@ -12,7 +12,7 @@ use am_map::Map;
 use am_master::Master;
 use am_names::Trigger;
 use am_state::Record;
-use std::alloc::Global;
+use std::alloc::{AllocError, Global};
 use std::marker::Model;
 
 /// The automount daemon: its maps, the file systems that it is attached to, what is mounted on
@@ -58,6 +58,17 @@ impl Model for Daemon {
     ghost view = { table_of };
 }
 
+/// The same maps once more.
+fn copies_of(alloc: Global, maps: &[Map]) -> Result<Vec<Map>, AllocError>
+    ensures { IfOk result (λ copies. copies.items ≡ maps.now) }
+{
+    let mut copies = Vec::with_capacity(alloc, maps.len())?;
+    for map in maps {
+        copies.push(map.copy()?)?;
+    }
+    Ok(copies)
+}
+
 impl Daemon {
     /// A daemon of a master map and the maps of its lines, in their order. Nothing is attached.
     pub fn new(alloc: Global, master: Master, maps: Vec<Map>) -> Daemon
@@ -71,6 +82,20 @@ impl Daemon {
             book: Book::new(alloc),
             jobs: JobTable::new(alloc),
         }
+    }
+
+    /// The same daemon once more, with no less room.
+    pub fn copy(&self, alloc: Global) -> Result<Daemon, AllocError>
+        ensures { IfOk result (IsCopy self.now) }
+    {
+        Ok(Daemon {
+            master: self.master.copy(alloc)?,
+            maps: copies_of(alloc, self.maps.as_slice())?,
+            known: self.known.copy(alloc)?,
+            held: self.held.copy(alloc)?,
+            book: self.book.copy(alloc)?,
+            jobs: self.jobs.copy(alloc)?,
+        })
     }
 
     /// What is mounted on each trigger, in order of making.

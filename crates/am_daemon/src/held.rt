@@ -1,6 +1,6 @@
 //! The attachments that the daemon holds, found by their file systems.
 
-ghost use Rattle.std.specs.Prelude.{◌≡◌, ◌≤◌, ◌+◌, ◌==◌, ◌&&◌, [], map, find, length, slice_get, OnOk};
+ghost use Rattle.std.specs.Prelude.{◌≡◌, ◌≤◌, ◌+◌, ◌==◌, ◌&&◌, [], map, find, length, slice_get, IfOk, OnOk};
 ghost use Rattle.std.specs.List.{list_any};
 ghost use Rattle.std.specs.Option.{option_map};
 ghost use Rattle.am_daemon.specs.Attachments.{AreOnce, held_as};
@@ -40,6 +40,16 @@ impl HeldTable {
         HeldTable {
             attachments: OrderedMap::new(alloc),
         }
+    }
+
+    /// The same attachments once more, with no less room.
+    pub(crate) fn copy(&self, alloc: Global) -> Result<HeldTable, AllocError>
+        ensures rows { IfOk result (λ copy. copy.rows ≡ self.now.rows) }
+        ensures room { IfOk result (λ copy. self.now.room ≤ copy.room) }
+    {
+        Ok(HeldTable {
+            attachments: self.attachments.copy(alloc)?,
+        })
     }
 
     /// The attachment to the file system. There is one at most.

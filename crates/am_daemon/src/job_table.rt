@@ -1,6 +1,6 @@
 //! The daemon's jobs, as a table.
 
-ghost use Rattle.std.specs.Prelude.{◌≡◌, ◌≤◌, ◌<◌, ◌+◌, ◌==◌, ◌∷◌, ◌++◌, [], ℕ, true, false, None, Some, cond, map, set, get_or, drop, remove, find, position, is_some, OnOk, vec_len, vec_capacity, length};
+ghost use Rattle.std.specs.Prelude.{◌≡◌, ◌≤◌, ◌<◌, ◌+◌, ◌-◌, ◌==◌, ◌∷◌, ◌++◌, [], ℕ, true, false, None, Some, cond, map, set, get_or, drop, remove, find, position, is_some, IfOk, OnOk, vec_len, vec_capacity, length};
 ghost use Rattle.std.specs.Option.{option_copied};
 ghost use Rattle.indexmap.specs.IndexMap.{spare};
 ghost use Rattle.am_daemon.specs.State.{JobPlan, job_plan};
@@ -186,6 +186,19 @@ fn take_at(rows: &mut Vec<Job>, over: &mut usize, at: usize)
     }
 }
 
+/// The same jobs once more, with room for so many more.
+fn copies_of(alloc: Global, rows: &[Job], room: usize) -> Result<Vec<Job>, AllocError>
+    ensures items { IfOk result (λ copies. copies.items ≡ rows.now) }
+    ensures room { IfOk result (λ copies. room ≤ vec_capacity copies - vec_len copies) }
+{
+    let mut copies = Vec::with_capacity(alloc, rows.len())?;
+    for row in rows {
+        copies.push(row.copy(alloc)?)?;
+    }
+    copies.reserve(room)?;
+    Ok(copies)
+}
+
 impl JobTable {
     /// No job.
     pub fn new(alloc: Global) -> JobTable
@@ -197,6 +210,23 @@ impl JobTable {
             turns: IndexMap::new(alloc),
             next: 0,
         }
+    }
+
+    /// The same jobs once more, with no less room.
+    pub fn copy(&self, alloc: Global) -> Result<JobTable, AllocError>
+        ensures rows { IfOk result (λ copy. copy.rows ≡ self.now.rows) }
+        ensures room { IfOk result (λ copy. self.now.room ≤ copy.room) }
+    {
+        let room = self.rows.capacity() - self.rows.len();
+        let rows = copies_of(alloc, live(&self.rows, self.over), room)?;
+        let mut turns = self.turns.clone()?;
+        turns.reserve(self.turns.capacity() - self.turns.len())?;
+        Ok(JobTable {
+            rows,
+            over: 0,
+            turns,
+            next: self.next,
+        })
     }
 
     /// The jobs, in order of delivery.

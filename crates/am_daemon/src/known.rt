@@ -1,6 +1,6 @@
 //! The paths at which file systems were attached, found by their file systems.
 
-ghost use Rattle.std.specs.Prelude.{◌≡◌, ◌<◌, ◌≤◌, ◌+◌, ◌^◌, ◌==◌, [], length, map, nat_eq, slice_get, None, IfSome, OnOk};
+ghost use Rattle.std.specs.Prelude.{◌≡◌, ◌<◌, ◌≤◌, ◌+◌, ◌^◌, ◌==◌, [], length, map, take, nat_eq, slice_get, None, IfOk, IfSome, OnOk};
 ghost use Rattle.std.specs.List.{list_any, IsDistinct};
 ghost use Rattle.std.specs.Map.{keys_of, lookup};
 ghost use Rattle.std.specs.Option.{option_copied, option_map};
@@ -142,6 +142,44 @@ fn put_in(
     places.insert_reserved(fs, path);
 }
 
+/// This row of the others goes behind those before it, for which there is room.
+fn copy_row(
+    alloc: Global,
+    copies: &mut OrderedMap<u32, Place>,
+    places: &OrderedMap<u32, Place>,
+    index: usize,
+) -> Result<(), AllocError>
+    requires before { copies.old.entries ≡ take index places.now.entries }
+    requires unique { IsDistinct nat_eq (keys_of places.now.entries) }
+    requires room { 1 ≤ copies.old.room }
+    ensures entries { OnOk result (copies.new.entries ≡ take (index + 1) places.now.entries) }
+    ensures room { copies.old.room ≤ copies.new.room + 1 }
+{
+    if let Some((fs, place)) = places.get_index(index) {
+        copies.insert_reserved(*fs, place.copy(alloc)?);
+    }
+    Ok(())
+}
+
+/// The same rows once more, with room for so many more.
+fn copies_of(
+    alloc: Global,
+    places: &OrderedMap<u32, Place>,
+    room: usize,
+) -> Result<OrderedMap<u32, Place>, AllocError>
+    requires { IsDistinct nat_eq (keys_of places.now.entries) }
+    ensures entries { IfOk result (λ copies. copies.entries ≡ places.now.entries) }
+    ensures room { IfOk result (λ copies. room ≤ copies.room) }
+{
+    let mut copies = OrderedMap::new(alloc);
+    copies.reserve(places.len())?;
+    for index in 0..places.len() {
+        copy_row(alloc, &mut copies, places, index)?;
+    }
+    copies.reserve(room)?;
+    Ok(copies)
+}
+
 /// A file system that the daemon was ever attached to, and the path of that.
 #[derive(Clone, Copy)]
 pub struct Known<'a> {
@@ -158,6 +196,21 @@ impl KnownTable {
             places: OrderedMap::new(alloc),
             buckets: IndexMap::new(alloc),
         }
+    }
+
+    /// The same paths once more, with no less room.
+    pub(crate) fn copy(&self, alloc: Global) -> Result<KnownTable, AllocError>
+        ensures rows { IfOk result (λ copy. copy.rows ≡ self.now.rows) }
+        ensures room { IfOk result (λ copy. self.now.room ≤ copy.room) }
+    {
+        // No more paths take no memory than there is room for buckets.
+        let room = self.buckets.capacity() - self.buckets.len();
+        let mut buckets = self.buckets.clone()?;
+        buckets.reserve(room)?;
+        Ok(KnownTable {
+            places: copies_of(alloc, &self.places, room)?,
+            buckets,
+        })
     }
 
     /// How many there are.

@@ -1,6 +1,6 @@
 //! The order in which triggers come to expire.
 
-ghost use Rattle.std.specs.Prelude.{◌≡◌, ◌+◌, ◌-◌, ◌≤◌, ◌<◌, [], true, false, nat_lt, nat_le, length, filter, get_or, Some, None, OnOk, if◌then◌else◌};
+ghost use Rattle.std.specs.Prelude.{◌≡◌, ◌+◌, ◌-◌, ◌≤◌, ◌<◌, [], true, false, nat_lt, nat_le, length, filter, get_or, Some, None, IfOk, OnOk, if◌then◌else◌};
 ghost use Rattle.std.specs.Cmp.Lexicographic.{slice_cmp};
 ghost use Rattle.std.specs.List.Sorted.{IsPartitionPoint};
 ghost use Rattle.std.specs.Option.{option_cmp};
@@ -122,6 +122,17 @@ impl Order {
         Order {
             places: VecDeque::new(alloc),
         }
+    }
+
+    /// The same order once more, with no less room.
+    pub(crate) fn copy(&self) -> Result<Order, AllocError>
+        ensures places { IfOk result (λ copy. copy.places.items ≡ self.now.places.items) }
+        ensures room { IfOk result (λ copy. deque_capacity self.now.places - deque_len
+            self.now.places ≤ deque_capacity copy.places - deque_len copy.places) }
+    {
+        let mut places = self.places.clone()?;
+        places.reserve(self.places.capacity() - self.places.len())?;
+        Ok(Order { places })
     }
 
     /// How many last uses come before that of a trigger at a moment.

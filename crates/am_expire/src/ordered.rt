@@ -1,6 +1,6 @@
 //! The triggers, and the order in which they come to expire.
 
-ghost use Rattle.std.specs.Prelude.{◌≡◌, ◌≤◌, ◌+◌, length, filter, None, OnOk, OnErr};
+ghost use Rattle.std.specs.Prelude.{◌≡◌, ◌≤◌, ◌+◌, length, filter, None, IfOk, OnOk, OnErr};
 ghost use Rattle.am_names.specs.{RefusedAs, RefusedOnlyAs};
 ghost use Rattle.am_trigger.specs.{no_triggers, add_refusal, with_autofs, catatonic_refusal, with_catatonic, mkdir_refusal, with_directory, rmdir_refusal, without_directory, used, all_used, KeepsRoom};
 ghost use Rattle.am_expire.specs.Order.{is_of, IsOrder};
@@ -41,6 +41,17 @@ impl OrderedTriggers {
             triggers: Triggers::new(alloc),
             order: Order::new(alloc),
         }
+    }
+
+    /// The same triggers in the same order once more, with no less room.
+    pub fn copy(&self, alloc: Global) -> Result<OrderedTriggers, AllocError>
+        ensures rows { IfOk result (λ copy. copy.rows ≡ self.now.rows) }
+        ensures room { IfOk result (KeepsRoom self.now) }
+    {
+        Ok(OrderedTriggers {
+            triggers: self.triggers.copy(alloc)?,
+            order: self.order.copy()?,
+        })
     }
 
     /// The triggers, to look at.

@@ -10,7 +10,7 @@ use am_names::{Errno, MountId, WalkerId};
 use am_ordered::OrderedMap;
 use am_propagate::InUse;
 use indexmap::IndexMap;
-use std::alloc::Global;
+use std::alloc::{AllocError, Global};
 use std::marker::Model;
 
 /// A walker that is inside a mount, which is one use of the mount.
@@ -81,6 +81,16 @@ impl Uses {
             mounts: OrderedMap::new(alloc),
             counts: IndexMap::new(alloc),
         }
+    }
+
+    /// The same uses once more.
+    pub fn copy(&self, alloc: Global) -> Result<Uses, AllocError>
+        ensures { IfOk result (λ copy. copy ≡ self.now) }
+    {
+        Ok(Uses {
+            mounts: self.mounts.copy(alloc)?,
+            counts: self.counts.clone()?,
+        })
     }
 
     /// The mount that the walker is inside of.

@@ -71,6 +71,18 @@ impl Groups {
         }
     }
 
+    /// The same mounts and peer groups once more.
+    pub fn copy(&self, alloc: Global) -> Result<Groups, AllocError>
+        ensures { IfOk result (λ copy. copy ≡ self.now) }
+    {
+        Ok(Groups {
+            members: self.members.copy(alloc)?,
+            groups: self.groups.copy(alloc)?,
+            last_group: self.last_group,
+            indexes: self.indexes.copy(alloc)?,
+        })
+    }
+
     /// The mounts, in rising order of number.
     pub fn members(&self) -> &[MemberRow]
         ensures rows { result.now ≡ self.now.members }

@@ -91,6 +91,17 @@ impl Indexes {
         }
     }
 
+    /// The same lists once more.
+    pub fn copy(&self, alloc: Global) -> Result<Indexes, AllocError>
+        ensures { IfOk result (HaveSameLists self.now) }
+    {
+        Ok(Indexes {
+            members: self.members.copy(alloc)?,
+            slaves: self.slaves.copy(alloc)?,
+            below: self.below.copy(alloc)?,
+        })
+    }
+
     /// Makes room for the mount.
     pub fn make_room(&mut self, row: &MemberRow) -> Result<(), AllocError>
         ensures same { HaveSameLists self.old self.new }

@@ -1,6 +1,6 @@
 //! The numbers that share a number.
 
-ghost use Rattle.std.specs.Prelude.{◌≡◌, ◌<◌, ◌==◌, ℕ, false, nat_eq, [], None, Some, IfSome, IfNone, OnOk, OnErr};
+ghost use Rattle.std.specs.Prelude.{◌≡◌, ◌<◌, ◌==◌, ℕ, false, nat_eq, [], None, Some, IfOk, IfSome, IfNone, OnOk, OnErr};
 ghost use Rattle.std.specs.Vec.{vec_len, vec_capacity};
 ghost use Rattle.std.specs.List.Sorted.{IsStrictlyIncreasing};
 ghost use Rattle.indexmap.specs.IndexMap.{get, IsUnique, index_map_len};
@@ -62,6 +62,18 @@ impl Index {
             lists: IndexMap::new(alloc),
             latest: 0,
         }
+    }
+
+    /// The same lists once more.
+    #[tactic(auto, using(crate::proofs::CopyLemmas::same_lists))]
+    pub fn copy(&self, alloc: Global) -> Result<Index, AllocError>
+        ensures { IfOk result (SameLists self.now) }
+    {
+        Ok(Index {
+            alloc,
+            lists: self.lists.clone()?,
+            latest: self.latest,
+        })
     }
 
     /// Those that have the number.

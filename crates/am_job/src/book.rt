@@ -1,13 +1,13 @@
 //! The daemon's book: what is mounted on each trigger.
 
-ghost use Rattle.std.specs.Prelude.{◌≡◌, ◌≤◌, ◌+◌, ◌==◌, not, length, filter, remove, slice_get, if◌then◌else◌, [], Some, None, IfSome, OnOk, OnErr};
+ghost use Rattle.std.specs.Prelude.{◌≡◌, ◌≤◌, ◌+◌, ◌==◌, not, length, filter, remove, slice_get, if◌then◌else◌, [], Some, None, IfOk, IfSome, OnOk, OnErr};
 ghost use Rattle.am_names.specs.{RefusedAs};
 ghost use Rattle.am_job.specs.Book.{record_of, with_record, without_record, without_fs, IsRecorded, IsForgotten};
 
 use am_names::{Errno, FsId, Name, Trigger};
 use am_ordered::OrderedMap;
 use am_state::{Record, RecordRow};
-use std::alloc::Global;
+use std::alloc::{AllocError, Global};
 use std::marker::Model;
 
 /// What the daemon has written down of each trigger.
@@ -60,6 +60,16 @@ impl Book {
         Book {
             records: OrderedMap::new(alloc),
         }
+    }
+
+    /// The same records once more, with no less room.
+    pub fn copy(&self, alloc: Global) -> Result<Book, AllocError>
+        ensures rows { IfOk result (λ copy. copy.rows ≡ self.now.rows) }
+        ensures room { IfOk result (λ copy. self.now.room ≤ copy.room) }
+    {
+        Ok(Book {
+            records: self.records.copy(alloc)?,
+        })
     }
 
     /// How many records there are.

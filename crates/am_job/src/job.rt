@@ -1,6 +1,6 @@
 //! A job: what the daemon does for one packet.
 
-ghost use Rattle.std.specs.Prelude.{◌≡◌, ◌⊎◌, IsTrue, IfSome, option_copied};
+ghost use Rattle.std.specs.Prelude.{◌≡◌, ◌⊎◌, IsTrue, IfOk, IfSome, option_copied};
 ghost use Rattle.am_job.specs.Job.{plan_of};
 ghost use Rattle.am_job.specs.Laws.{AcknowledgesLast, RecordsFirst, IsLawful, ClaimsFollow, claimed_first};
 ghost use Rattle.am_job.specs.Plans.{plan_for, next_of, rest_of, is_reply, claims};
@@ -9,6 +9,7 @@ use crate::act::{Act, Outcome};
 use crate::left::Left;
 use am_map::Entry;
 use am_names::{Attach, JobId, MountId, TokenKind, Trigger};
+use std::alloc::{AllocError, Global};
 use std::marker::Model;
 use std::mem;
 
@@ -60,6 +61,18 @@ impl Job {
             trigger,
             left,
         }
+    }
+
+    /// The same job once more.
+    pub fn copy(&self, alloc: Global) -> Result<Job, AllocError>
+        ensures { IfOk result (λ job. job ≡ self.now) }
+    {
+        Ok(Job {
+            job: self.job,
+            attach: self.attach,
+            trigger: self.trigger,
+            left: self.left.copy(alloc)?,
+        })
     }
 
     /// The number of the packet's token.

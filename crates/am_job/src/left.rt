@@ -1,6 +1,6 @@
 //! The acts that a job has left.
 
-ghost use Rattle.std.specs.Prelude.{◌≡◌, Some, None};
+ghost use Rattle.std.specs.Prelude.{◌≡◌, Some, None, IfOk};
 ghost use Rattle.am_names.specs.declared.trigger.Trigger.{Trigger as TriggerRow};
 ghost use Rattle.am_job.specs.declared.act.Act.TheVariants as acts;
 ghost use Rattle.am_job.specs.declared.left.Later.TheVariants as later;
@@ -11,6 +11,7 @@ use crate::act::{Act, Outcome};
 use am_map::Entry;
 use am_names::{FailNo, MountId, Status, TokenKind, Trigger};
 use am_state::Record;
+use std::alloc::{AllocError, Global};
 
 /// What comes after the next act.
 #[derive(Drop)]
@@ -34,6 +35,25 @@ pub enum Later {
 pub enum Left {
     Ended,
     Next { act: Act, later: Later },
+}
+
+impl Later {
+    /// The same once more.
+    fn copy(&self, alloc: Global) -> Result<Later, AllocError>
+        ensures { IfOk result (λ copy. copy ≡ self.now) }
+    {
+        let copy = match self {
+            Later::Nothing => Later::Nothing,
+            Later::Reply { status } => Later::Reply { status: *status },
+            Later::RecordNone { status } => Later::RecordNone { status: *status },
+            Later::Mount { entry } => Later::Mount {
+                entry: entry.copy(alloc)?,
+            },
+            Later::AfterMount => Later::AfterMount,
+            Later::AfterUmount { mount } => Later::AfterUmount { mount: *mount },
+        };
+        Ok(copy)
+    }
 }
 
 fn reply(status: Status) -> Left
@@ -159,6 +179,19 @@ impl Later {
 }
 
 impl Left {
+    /// The same acts once more.
+    pub fn copy(&self, alloc: Global) -> Result<Left, AllocError>
+        ensures { IfOk result (λ left. left ≡ self.now) }
+    {
+        match self {
+            Left::Ended => Ok(Left::Ended),
+            Left::Next { act, later } => Ok(Left::Next {
+                act: act.copy(alloc)?,
+                later: later.copy(alloc)?,
+            }),
+        }
+    }
+
     /// The plan for a packet, by the kind of its token, by what the book says to be mounted on its
     /// trigger, and by the entry of its key.
     pub(crate) fn plan_for(

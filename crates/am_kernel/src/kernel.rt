@@ -15,7 +15,7 @@ use am_propagate::Subtree;
 use am_state::QueuedRow;
 use am_trigger::{Failures, Triggers};
 use am_wait::Waits;
-use std::alloc::Global;
+use std::alloc::{AllocError, Global};
 use std::marker::Model;
 
 /// The mounts of all namespaces, the autofs file systems with their triggers, tokens and pipes,
@@ -74,6 +74,26 @@ impl Kernel {
             last_attach: 0,
             latest: Seconds(0),
             negative: limits.negative,
+        })
+    }
+
+    /// The same kernel once more.
+    pub fn copy(&self, alloc: Global) -> Result<Kernel, AllocError>
+        ensures { IfOk result (λ copy. copy ≡ self.now) }
+    {
+        Ok(Kernel {
+            subtree: self.subtree.copy(alloc)?,
+            triggers: self.triggers.copy(alloc)?,
+            failures: self.failures.copy(alloc)?,
+            waits: self.waits.copy(alloc)?,
+            uses: self.uses.copy(alloc)?,
+            attached: self.attached.copy(alloc)?,
+            walks: self.walks.copy(alloc)?,
+            queue: self.queue.copy(alloc)?,
+            last_fs: self.last_fs,
+            last_attach: self.last_attach,
+            latest: self.latest,
+            negative: self.negative,
         })
     }
 

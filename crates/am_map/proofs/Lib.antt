@@ -1,3 +1,4 @@
+pub mod CopyLemmas
 pub mod FaultLemmas
 pub mod FirstLemmas
 pub mod ReadLemmas

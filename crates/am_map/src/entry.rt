@@ -72,6 +72,16 @@ impl Entry {
     }
 }
 
+impl Clone for Entry {
+    ghost use Rattle.std.specs.Prelude.{◌≡◌};
+
+    ghost is_clone = { λ entry clone. clone ≡ entry };
+
+    fn clone(&self) -> Result<Entry, AllocError> {
+        self.copy(*self.host.allocator())
+    }
+}
+
 /// The bytes, with the key in the place of each `&`.
 fn with_key(alloc: Global, bytes: &[u8], key: &[u8]) -> Result<Vec<u8>, AllocError>
     ensures { IfOk result (λ replaced. replaced.items ≡ with_key key.now bytes.now) }

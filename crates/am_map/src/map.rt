@@ -65,6 +65,16 @@ impl Map {
         }
     }
 
+    /// The same rows once more.
+    #[tactic(auto, using(crate::proofs::CopyLemmas::same_rows))]
+    pub fn copy(&self) -> Result<Map, AllocError>
+        ensures { IfOk result (λ copy. copy ≡ self.now) }
+    {
+        Ok(Map {
+            rows: self.rows.clone()?,
+        })
+    }
+
     /// The entry of the first line with this key, else of the first `*` line, with each `&` of
     /// its host and its path replaced by the key (autofs(5), "Map Key Substitution" and "Wildcard
     /// Key"). A key of a direct map is the `key_text` of a path.

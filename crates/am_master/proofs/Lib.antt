@@ -1,3 +1,4 @@
+pub mod CopyLemmas
 pub mod DecimalLemmas
 pub mod FaultLemmas
 pub mod PlaceLemmas

@@ -1,6 +1,9 @@
 //! A line of the master map.
 
+ghost use Rattle.std.specs.Prelude.{◌≡◌, IfOk};
+
 use crate::point::Point;
+use std::alloc::{AllocError, Global};
 use std::marker::Model;
 
 /// Which map serves a mount point, and how long its mounts stay.
@@ -23,4 +26,18 @@ impl Model for MasterEntry {
 
     ghost view = { λ e.
         record { point = e.point; map = e.map.items; timeout = e.timeout; line = e.line } };
+}
+
+impl MasterEntry {
+    /// The same line once more.
+    pub fn copy(&self, alloc: Global) -> Result<MasterEntry, AllocError>
+        ensures { IfOk result (λ entry. entry ≡ self.now) }
+    {
+        Ok(MasterEntry {
+            point: self.point.copy(alloc)?,
+            map: Vec::from_slice(alloc, self.map.as_slice())?,
+            timeout: self.timeout,
+            line: self.line,
+        })
+    }
 }

@@ -39,6 +39,17 @@ impl Model for Master {
     ghost invariant = { λ m. ArePoints m.points m.entries.items };
 }
 
+/// The same lines once more.
+fn copies_of(alloc: Global, entries: &[MasterEntry]) -> Result<Vec<MasterEntry>, AllocError>
+    ensures { IfOk result (λ copies. copies.items ≡ entries.now) }
+{
+    let mut copies = Vec::with_capacity(alloc, entries.len())?;
+    for entry in entries {
+        copies.push(entry.copy(alloc)?)?;
+    }
+    Ok(copies)
+}
+
 impl Master {
     /// Reads a whole text, or tells its first faulty line.
     pub fn read(alloc: Global, text: &[u8]) -> Result<Master, MasterFault>
@@ -67,6 +78,16 @@ impl Master {
             number += behind.raw_lines;
             rest = next;
         }
+    }
+
+    /// The same lines once more.
+    pub fn copy(&self, alloc: Global) -> Result<Master, AllocError>
+        ensures { IfOk result (λ copy. copy ≡ self.now) }
+    {
+        Ok(Master {
+            entries: copies_of(alloc, self.entries.as_slice())?,
+            points: self.points.copy()?,
+        })
     }
 
     /// The lines, in their order.

@@ -1,6 +1,9 @@
 //! Where an autofs is mounted.
 
+ghost use Rattle.std.specs.Prelude.{◌≡◌, IfOk};
+
 use am_names::Place;
+use std::alloc::{AllocError, Global};
 
 /// The mount point of a line (auto.master(5), "FORMAT").
 #[derive(Debug, Drop)]
@@ -9,4 +12,16 @@ pub enum Point {
     Direct,
     /// The path of an indirect map, never the root.
     Indirect(Place),
+}
+
+impl Point {
+    /// The same point once more.
+    pub fn copy(&self, alloc: Global) -> Result<Point, AllocError>
+        ensures { IfOk result (λ point. point ≡ self.now) }
+    {
+        match self {
+            Point::Direct => Ok(Point::Direct),
+            Point::Indirect(path) => Ok(Point::Indirect(path.copy(alloc)?)),
+        }
+    }
 }

@@ -1,6 +1,6 @@
 //! The mount points of the lines that have been read, each of which may stand on one line only.
 
-ghost use Rattle.std.specs.Prelude.{◌≡◌, ◌++◌, [], false, OnOk, OnErr};
+ghost use Rattle.std.specs.Prelude.{◌≡◌, ◌++◌, [], false, IfOk, OnOk, OnErr};
 ghost use Rattle.std.specs.Str.{bytes_eq};
 ghost use Rattle.std.specs.List.{list_any};
 ghost use Rattle.std.specs.Map.{lookup};
@@ -34,6 +34,16 @@ impl Points {
         Points {
             places: IndexMap::new(alloc),
         }
+    }
+
+    /// The same points once more.
+    #[tactic(auto, using(crate::proofs::CopyLemmas::same_points))]
+    pub(crate) fn copy(&self) -> Result<Points, AllocError>
+        ensures { IfOk result (λ copy. copy ≡ self.now) }
+    {
+        Ok(Points {
+            places: self.places.clone()?,
+        })
     }
 
     /// Whether a point has this text.

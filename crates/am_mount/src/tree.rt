@@ -284,6 +284,17 @@ fn unlist(rows: &[MountRow], indexes: &mut Indexes, gone: &[MountId])
     }
 }
 
+/// The same rows once more.
+fn copies(alloc: Global, rows: &[MountRow]) -> Result<Vec<MountRow>, AllocError>
+    ensures { IfOk result (λ copies. copies.items ≡ rows.now) }
+{
+    let mut copies = Vec::with_capacity(alloc, rows.len())?;
+    for row in rows {
+        copies.push(row.copy(alloc)?)?;
+    }
+    Ok(copies)
+}
+
 impl Tree {
     /// No mount.
     pub fn new(alloc: Global) -> Tree
@@ -293,6 +304,30 @@ impl Tree {
             rows: Rows::new(alloc),
             indexes: Indexes::new(alloc),
         }
+    }
+
+    /// Watches the file systems that another one watches.
+    fn watch_all(&mut self, other: &Tree) -> Result<(), AllocError>
+        ensures { self.new ≡ self.old }
+    {
+        let watched = &other.indexes.by_fs;
+        for index in 0..watched.len() {
+            if let Some(fs) = watched.at(index) {
+                self.watch(FsId(fs as u32))?;
+            }
+        }
+        Ok(())
+    }
+
+    /// The same mounts once more, of which the same are watched.
+    pub fn copy(&self, alloc: Global) -> Result<Tree, AllocError>
+        ensures { IfOk result (λ copy. copy ≡ self.now) }
+    {
+        let rows = copies(alloc, self.rows())?;
+        let mut copy = Tree::new(alloc);
+        copy.watch_all(self)?;
+        copy.add_all(rows)?;
+        Ok(copy)
     }
 
     /// All rows, in rising order of number.

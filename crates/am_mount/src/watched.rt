@@ -1,6 +1,7 @@
 //! The mounts of file systems that are watched.
 
-ghost use Rattle.std.specs.Prelude.{◌≡◌, ◌<◌, ◌≤◌, ℕ, nat_eq, [], Some, None, OnOk, OnErr, IfOk, IfSome, IfNone};
+ghost use Rattle.std.specs.Prelude.{◌≡◌, ◌<◌, ◌≤◌, ℕ, nat_eq, [], length, slice_get, Some, None, OnOk, OnErr, IfOk, IfSome, IfNone};
+ghost use Rattle.indexmap.specs.IndexMap.{keys};
 ghost use Rattle.am_mount.specs.Watched.{watched, AddsWatched, RisesIfAny, RoomIfWatched, SameWatched, TakesWatched, Watches};
 
 use crate::few::take_out;
@@ -28,6 +29,21 @@ impl Watched {
             lists: IndexMap::new(alloc),
             next: 0,
         }
+    }
+
+    /// The file system at this index, of those that are watched.
+    pub fn at(&self, index: usize) -> Option<u64>
+        ensures { result ≡ slice_get (keys self.now.lists) index }
+    {
+        let (fs, _) = self.lists.get_index(index)?;
+        Some(*fs)
+    }
+
+    /// How many file systems are watched.
+    pub fn len(&self) -> usize
+        ensures { result ≡ length (keys self.now.lists) }
+    {
+        self.lists.len()
     }
 
     /// The mounts of the file system, if it is watched.

@@ -1,4 +1,5 @@
 pub mod BlockLemmas
+pub mod CopyLemmas
 pub mod OrderLemmas
 pub mod RowLemmas
 pub mod SlotLemmas

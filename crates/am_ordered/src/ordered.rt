@@ -1,6 +1,6 @@
 //! The map.
 
-ghost use Rattle.std.specs.Prelude.{◌≡◌, ◌≤◌, ◌<◌, ◌+◌, ◌^◌, [], length, remove, slice_get, is_some, IsSome, IsNone, Some, OnOk, OnErr, option_copied};
+ghost use Rattle.std.specs.Prelude.{◌≡◌, ◌≤◌, ◌<◌, ◌+◌, ◌^◌, [], length, remove, take, slice_get, is_some, IsSome, IsNone, Some, IfOk, OnOk, OnErr, option_copied};
 ghost use Rattle.std.specs.List.{IsDistinct};
 ghost use Rattle.std.specs.Map.{keys_of, lookup};
 ghost use Rattle.std.specs.Map.Iter.{deref_pair};
@@ -210,6 +210,38 @@ impl<K: Eq + Hash, V> OrderedMap<K, V> {
         let index = index_in_order(&self.slots, &self.order, place, slot.turn)?;
         let (_, value) = self.remove_index(index)?;
         Some(value)
+    }
+
+    /// Puts the row at this index of another map behind those before it, for which there is room.
+    fn copy_row(&mut self, other: &OrderedMap<K, V>, index: usize)
+    where
+        K: Copy,
+        V: Copy,
+        requires before { self.old.entries ≡ take index other.now.entries }
+        requires unique { IsDistinct K.eq (keys_of other.now.entries) }
+        requires room { 1 ≤ self.old.room }
+        ensures entries { self.new.entries ≡ take (index + 1) other.now.entries }
+        ensures room { self.old.room ≤ self.new.room + 1 }
+    {
+        if let Some((key, value)) = other.get_index(index) {
+            self.append(*key, *value);
+        }
+    }
+
+    /// The same map once more, with no less room.
+    pub fn copy(&self, alloc: Global) -> Result<OrderedMap<K, V>, AllocError>
+    where
+        K: Copy,
+        V: Copy,
+        ensures entries { IfOk result (λ copy. copy.entries ≡ self.now.entries) }
+        ensures room { IfOk result (λ copy. self.now.room ≤ copy.room) }
+    {
+        let mut copy = OrderedMap::new(alloc);
+        copy.reserve(self.order.capacity())?;
+        for index in 0..self.len() {
+            copy.copy_row(self, index);
+        }
+        Ok(copy)
     }
 
     /// Takes out every key. No memory is taken.

@@ -1,6 +1,6 @@
 //! Rows side by side, of which the shorter side moves where some are taken out.
 
-ghost use Rattle.std.specs.Prelude.{◌≡◌, ◌≤◌, ◌<◌, ◌+◌, ◌-◌, ◌^◌, ◌++◌, ◌∷◌, [], length, remove, drop, take, option_to_list, OnOk, vec_len, vec_capacity};
+ghost use Rattle.std.specs.Prelude.{◌≡◌, ◌≤◌, ◌<◌, ◌+◌, ◌-◌, ◌^◌, ◌++◌, ◌∷◌, [], length, remove, drop, take, option_to_list, IfOk, OnOk, vec_len, vec_capacity};
 ghost use Rattle.std.specs.Fn.{CalledAt};
 ghost use Rattle.std.specs.List.{insert, slice_set};
 ghost use Rattle.std.specs.List.Retain.{IsFiltered};
@@ -162,6 +162,18 @@ impl<T> Rows<T> {
             slots: rows,
             gone: 0,
         }
+    }
+
+    /// The same rows once more, with no less room.
+    pub fn copy(&self, alloc: Global) -> Result<Rows<T>, AllocError>
+    where
+        T: Copy,
+        ensures rows { IfOk result (λ copy. copy.rows ≡ self.now.rows) }
+        ensures room { IfOk result (λ copy. self.now.room ≤ copy.room) }
+    {
+        let mut slots = Vec::with_capacity(alloc, self.slots.capacity() - self.gone)?;
+        slots.extend_from_slice(self.as_slice())?;
+        Ok(Rows { slots, gone: 0 })
     }
 
     /// How many rows there are.

@@ -71,6 +71,19 @@ impl Subtree {
         })
     }
 
+    /// The same mounts with the same propagation once more.
+    pub fn copy(&self, alloc: Global) -> Result<Subtree, AllocError>
+        ensures { IfOk result (λ copy. copy ≡ self.now) }
+    {
+        Ok(Subtree {
+            tree: self.tree.copy(alloc)?,
+            groups: self.groups.copy(alloc)?,
+            last_mount: self.last_mount,
+            last_ns: self.last_ns,
+            limit: self.limit,
+        })
+    }
+
     /// The mount rows.
     pub fn tree(&self) -> &Tree
         ensures rows { result.now ≡ self.now.rows }

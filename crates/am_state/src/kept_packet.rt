@@ -117,6 +117,13 @@ impl KeptPacket {
         }
     }
 
+    /// The same packet once more.
+    pub fn copy(&self, alloc: Global) -> Result<KeptPacket, AllocError>
+        ensures { IfOk result (λ kept. kept ≡ self.now) }
+    {
+        KeptPacket::new(alloc, &self.to_packet())
+    }
+
     /// What the daemon is asked for.
     pub fn kind(&self) -> PacketType
         ensures { result ≡ self.now.kind }

@@ -122,6 +122,13 @@ impl KeptTrigger {
         }
     }
 
+    /// The same trigger once more.
+    pub fn copy(&self, alloc: Global) -> Result<KeptTrigger, AllocError>
+        ensures { IfOk result (λ kept. kept ≡ self.now) }
+    {
+        KeptTrigger::new(alloc, &self.to_trigger())
+    }
+
     /// Whether it is this trigger.
     pub fn is(&self, trigger: &Trigger) -> bool
         ensures { result ≡ same_trigger self.now trigger.now }

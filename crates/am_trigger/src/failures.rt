@@ -1,12 +1,12 @@
 //! What failed last at each trigger, and how long that lasts.
 
-ghost use Rattle.std.specs.Prelude.{◌≡◌, ◌≤◌, ◌+◌, ◌==◌, length, not, [], None, Some, filter, remove, slice_get, if◌then◌else◌, IfSome, OnOk};
+ghost use Rattle.std.specs.Prelude.{◌≡◌, ◌≤◌, ◌+◌, ◌==◌, length, not, [], None, Some, filter, remove, slice_get, if◌then◌else◌, IfOk, IfSome, OnOk};
 ghost use Rattle.am_names.specs.{RefusedAs};
 ghost use Rattle.am_trigger.specs.Failures.{lasts, failure_of, failing, with_failure, without_failure, without_failures, IsFailed, IsMended};
 
 use am_names::{Errno, FailNo, FsId, Name, Seconds, Trigger};
 use am_ordered::OrderedMap;
-use std::alloc::Global;
+use std::alloc::{AllocError, Global};
 use std::marker::Model;
 
 /// A notification was acknowledged with FAIL, with this error and at this moment.
@@ -93,6 +93,16 @@ impl Failures {
         Failures {
             rows: OrderedMap::new(alloc),
         }
+    }
+
+    /// The same failures once more, with no less room.
+    pub fn copy(&self, alloc: Global) -> Result<Failures, AllocError>
+        ensures rows { IfOk result (λ copy. copy.rows ≡ self.now.rows) }
+        ensures room { IfOk result (λ copy. self.now.room ≤ copy.room) }
+    {
+        Ok(Failures {
+            rows: self.rows.copy(alloc)?,
+        })
     }
 
     /// At how many triggers something failed.

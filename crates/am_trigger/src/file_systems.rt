@@ -1,6 +1,6 @@
 //! Each autofs, found by its number.
 
-ghost use Rattle.std.specs.Prelude.{◌≡◌, ◌≤◌, ◌+◌, ◌++◌, ◌∷◌, ◌==◌, [], None, find, map, OnOk};
+ghost use Rattle.std.specs.Prelude.{◌≡◌, ◌≤◌, ◌+◌, ◌++◌, ◌∷◌, ◌==◌, [], None, find, map, IfOk, OnOk};
 ghost use Rattle.am_trigger.specs.Rows.{catatonic_row};
 
 use crate::autofs::Autofs;
@@ -39,6 +39,18 @@ impl FileSystems {
             entries: IndexMap::new(alloc),
             room: 0,
         }
+    }
+
+    /// The same once more, with as much room.
+    pub fn copy(&self) -> Result<FileSystems, AllocError>
+        ensures { IfOk result (λ copy. copy ≡ self.now) }
+    {
+        let mut entries = self.entries.clone()?;
+        entries.reserve(self.room)?;
+        Ok(FileSystems {
+            entries,
+            room: self.room,
+        })
     }
 
     /// The autofs of this number.

@@ -11,7 +11,7 @@ use crate::file_systems::FileSystems;
 use am_names::{Errno, FsId, MountId, Name, Seconds, Trigger};
 use am_ordered::OrderedMap;
 use indexmap::IndexMap;
-use std::alloc::Global;
+use std::alloc::{AllocError, Global};
 use std::marker::Model;
 
 mod last_uses;
@@ -56,6 +56,16 @@ fn use_all(uses: &mut IndexMap<Trigger, Seconds>, triggers: &[Trigger], moment: 
     }
 }
 
+/// The same last uses once more, with no less room.
+fn copy_uses(uses: &IndexMap<Trigger, Seconds>) -> Result<IndexMap<Trigger, Seconds>, AllocError>
+    ensures entries { IfOk result (λ copy. copy.entries ≡ uses.now.entries) }
+    ensures room { IfOk result (λ copy. spare uses.now ≤ spare copy) }
+{
+    let mut copy = uses.clone()?;
+    copy.reserve(uses.capacity() - uses.len())?;
+    Ok(copy)
+}
+
 impl Triggers {
     /// No autofs.
     pub fn new(alloc: Global) -> Triggers
@@ -66,6 +76,18 @@ impl Triggers {
             made: OrderedMap::new(alloc),
             uses: IndexMap::new(alloc),
         }
+    }
+
+    /// The same triggers once more, with no less room.
+    pub fn copy(&self, alloc: Global) -> Result<Triggers, AllocError>
+        ensures rows { IfOk result (λ copy. copy.rows ≡ self.now.rows) }
+        ensures room { IfOk result (KeepsRoom self.now) }
+    {
+        Ok(Triggers {
+            autofs: self.autofs.copy()?,
+            made: self.made.copy(alloc)?,
+            uses: copy_uses(&self.uses)?,
+        })
     }
 
     /// The autofs of this number.

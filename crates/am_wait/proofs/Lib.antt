@@ -16,3 +16,4 @@ pub mod RenewLemmas
 pub mod FailLemmas
 pub mod ViewLemmas
 mod OpeningLemmas
+mod CopyLemmas

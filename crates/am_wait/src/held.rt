@@ -21,6 +21,35 @@ pub struct HeldToken {
     pub keys: Keys,
 }
 
+impl HeldToken {
+    /// The same token once more.
+    fn copy(&self, alloc: Global) -> Result<HeldToken, AllocError>
+        ensures { IfOk result (λ row. row ≡ self.now) }
+    {
+        Ok(HeldToken {
+            token: self.token,
+            trigger: self.trigger,
+            kind: self.kind,
+            keys: self.keys.copy(alloc)?,
+        })
+    }
+}
+
+/// The same rows once more.
+pub fn copies_of(
+    alloc: Global,
+    tokens: &VecDeque<HeldToken>,
+) -> Result<VecDeque<HeldToken>, AllocError>
+    ensures { IfOk result (λ copies. copies.items ≡ tokens.now.items) }
+{
+    let mut copies = VecDeque::with_capacity(alloc, tokens.len())?;
+    for row in tokens.iter() {
+        let row = row.copy(alloc)?;
+        copies.push_back(row)?;
+    }
+    Ok(copies)
+}
+
 /// The token is the last of those found, if it is of the file system.
 fn find_token(found: &mut Vec<Token>, row: &HeldToken, fs: FsId) -> Result<(), AllocError>
     ensures { OnOk result (found.new.items

@@ -29,6 +29,15 @@ impl Keys {
         })
     }
 
+    /// The same keys once more.
+    pub fn copy(&self, alloc: Global) -> Result<Keys, AllocError>
+        ensures { IfOk result (λ keys. keys ≡ self.now) }
+    {
+        Ok(Keys {
+            keys: Vec::from_slice(alloc, self.keys.as_slice())?,
+        })
+    }
+
     /// One more key, the last.
     pub fn join(&mut self, key: usize) -> Result<(), AllocError>
         ensures ok { OnOk result (self.new ≡ self.old ++ key ∷ []) }

@@ -1,6 +1,6 @@
 //! The open tokens of each trigger, found by hash.
 
-ghost use Rattle.std.specs.Prelude.{◌≡◌, ◌==◌, [], find, filter, not, OnOk};
+ghost use Rattle.std.specs.Prelude.{◌≡◌, ◌==◌, [], find, filter, not, IfOk, OnOk};
 ghost use Rattle.std.specs.Option.{option_map};
 ghost use Rattle.am_names.specs.declared.trigger.Trigger.{Trigger as Site};
 ghost use Rattle.am_wait.specs.Rows.{same_kind};
@@ -68,6 +68,15 @@ impl Openings {
         Openings {
             lists: IndexMap::new(alloc),
         }
+    }
+
+    /// The same lists once more.
+    pub fn copy(&self) -> Result<Openings, AllocError>
+        ensures { IfOk result (SameLists self.now) }
+    {
+        Ok(Openings {
+            lists: self.lists.clone()?,
+        })
     }
 
     /// The open tokens of a trigger.

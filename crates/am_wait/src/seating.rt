@@ -1,6 +1,6 @@
 //! The key of the wait of each walker, found by hash.
 
-ghost use Rattle.std.specs.Prelude.{ℕ, ◌≡◌, ◌≤◌, [], length, OnOk, if◌then◌else◌};
+ghost use Rattle.std.specs.Prelude.{ℕ, ◌≡◌, ◌≤◌, [], length, IfOk, OnOk, if◌then◌else◌};
 ghost use Rattle.std.specs.Option.{option_map};
 ghost use Rattle.slab.specs.Slab.{get};
 ghost use Rattle.indexmap.specs.IndexMap.{values};
@@ -50,6 +50,16 @@ impl Seating {
         Seating {
             keys: IndexMap::new(alloc),
         }
+    }
+
+    /// The same seats once more, with no less room.
+    pub fn copy(&self) -> Result<Seating, AllocError>
+        ensures rows { IfOk result (λ copy. copy.rows ≡ self.now.rows) }
+        ensures room { IfOk result (λ copy. self.now.room ≤ copy.room) }
+    {
+        let mut keys = self.keys.clone()?;
+        keys.reserve(self.keys.capacity() - self.keys.len())?;
+        Ok(Seating { keys })
     }
 
     /// How many walkers there are.

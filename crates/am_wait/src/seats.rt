@@ -61,6 +61,14 @@ pub fn walkers_at(
     Ok(walkers)
 }
 
+/// The same waits at the same keys once more.
+pub fn copy_of(slab: &Slab<WaitRow>) -> Result<Slab<WaitRow>, AllocError>
+    ensures { IfOk result (λ copy. copy.slots ≡ slab.now.slots) }
+{
+    let copy = slab.clone()?;
+    Ok(copy)
+}
+
 /// Room for one more wait.
 pub fn make_room(seats: &mut Seating, slab: &mut Slab<WaitRow>) -> Result<(), AllocError>
     ensures seats { seats.new.rows ≡ seats.old.rows }

@@ -1,10 +1,10 @@
 //! The open tokens, found by their numbers and by their triggers.
 
-ghost use Rattle.std.specs.Prelude.{◌≡◌, ◌<◌, ◌^◌, ◌==◌, ◌∷◌, ◌++◌, [], length, filter, not, OnOk, OnErr};
+ghost use Rattle.std.specs.Prelude.{◌≡◌, ◌<◌, ◌^◌, ◌==◌, ◌∷◌, ◌++◌, [], length, filter, not, IfOk, OnOk, OnErr};
 ghost use Rattle.am_names.specs.{RiseBy};
 ghost use Rattle.am_wait.specs.Held.{without_held, with_key, held_row, held_open_on};
 
-use crate::held::{HeldToken, add_key, held_of, take_token, take_tokens_of};
+use crate::held::{HeldToken, add_key, copies_of, held_of, take_token, take_tokens_of};
 use crate::keys::Keys;
 use crate::openings::{Opening, Openings};
 use am_names::{FsId, Token, TokenKind, Trigger, WaitRow};
@@ -41,6 +41,16 @@ impl HeldTokens {
             rows: VecDeque::new(alloc),
             openings: Openings::new(alloc),
         }
+    }
+
+    /// The same tokens once more.
+    pub fn copy(&self, alloc: Global) -> Result<HeldTokens, AllocError>
+        ensures { IfOk result (λ copy. copy.items ≡ self.now.items) }
+    {
+        Ok(HeldTokens {
+            rows: copies_of(alloc, &self.rows)?,
+            openings: self.openings.copy()?,
+        })
     }
 
     /// The tokens, in rising order.

@@ -10,7 +10,7 @@ ghost use Rattle.am_wait.specs.Calls.{is_exhausted, is_full, open_refusal, waiti
 use crate::held;
 use crate::held::held_of;
 use crate::seating::Seating;
-use crate::seats::{set_statuses, take_wait, walkers_at};
+use crate::seats::{copy_of, set_statuses, take_wait, walkers_at};
 use crate::tokens::HeldTokens;
 use am_names::{Errno, FsId, Status, Token, TokenKind, Trigger, WaitRow, WalkerId};
 use slab::Slab;
@@ -69,6 +69,20 @@ impl Waits {
             most_waits: waiters,
             most_tokens: tokens,
         }
+    }
+
+    /// The same tokens and waits once more.
+    pub fn copy(&self, alloc: Global) -> Result<Waits, AllocError>
+        ensures { IfOk result (λ copy. copy ≡ self.now) }
+    {
+        Ok(Waits {
+            tokens: self.tokens.copy(alloc)?,
+            seats: self.seats.copy()?,
+            slab: copy_of(&self.slab)?,
+            last_token: self.last_token,
+            most_waits: self.most_waits,
+            most_tokens: self.most_tokens,
+        })
     }
 
     /// The open token of this kind for a trigger.

@@ -56,6 +56,8 @@ enum Call {
     /// The job's next act is done.
     Finishes(u32),
     Dies,
+    /// It goes on as a copy of itself.
+    Copies,
 }
 
 static MASTER: &[u8] = b"/auto auto.home\n/net auto.home --timeout=60\n";
@@ -182,6 +184,12 @@ fn serves(
     })
 }
 
+fn go_on_as_copy(alloc: Global, daemon: &mut Daemon) -> Result<bool, Errno> {
+    let copy = daemon.copy(alloc)?;
+    *daemon = copy;
+    Ok(true)
+}
+
 fn makes(alloc: Global, daemon: &mut Daemon, call: Call) -> Result<bool, Errno> {
     match call {
         Call::Attaches(fs, attach, path) => attaches(alloc, daemon, fs, attach, path),
@@ -203,6 +211,7 @@ fn makes(alloc: Global, daemon: &mut Daemon, call: Call) -> Result<bool, Errno> 
             daemon.die();
             Ok(true)
         }
+        Call::Copies => go_on_as_copy(alloc, daemon),
     }
 }
 
@@ -234,7 +243,7 @@ const MISSING: PacketType = PacketType::MissingIndirect;
 
 const EXPIRE: PacketType = PacketType::ExpireIndirect;
 
-static TESTS_IN_ORDER: [Step<Call>; 24] = [
+static TESTS_IN_ORDER: [Step<Call>; 26] = [
     // Each packet fails one test less than the one before. File system 2 isn't known, attachment 9
     // isn't held, and token 5 has a job.
     Step::Does(Call::Attaches(3, 2, b"/net")),
@@ -256,12 +265,14 @@ static TESTS_IN_ORDER: [Step<Call>; 24] = [
     Step::Does(Call::Takes(2, Mail(EXPIRE, 3, b"one", 6), BUSY)),
     Step::Does(Call::Takes(2, Mail(MISSING, 3, b"two", 5), BUSY)),
     Step::Does(Call::Takes(1, Mail(MISSING, 2, b"one", 5), BUSY)),
-    // Nothing has changed.
+    // Nothing has changed, and a copy is the same.
+    Step::Does(Call::Copies),
     Step::Does(Call::Takes(2, Mail(MISSING, 3, b"two", 6), NONE)),
     Step::Does(Call::Takes(1, Mail(MISSING, 2, b"one", 7), NONE)),
     Step::Does(Call::Holds(3, 2)),
     Step::Does(Call::Holds(2, 1)),
     Step::Does(Call::Dies),
+    Step::Does(Call::Copies),
     Step::Does(Call::HoldsNone(3, true)),
     Step::Does(Call::Takes(2, Mail(MISSING, 3, b"new", 8), OLD_ATTACH)),
 ];
@@ -271,7 +282,8 @@ fn tests_in_order() -> Example<Call> {
 }
 
 /// A file system that is attached once more: the older attachment and the older path are let go.
-static ATTACHED_AGAIN: [Step<Call>; 12] = [
+static ATTACHED_AGAIN: [Step<Call>; 14] = [
+    Step::Does(Call::Copies),
     Step::Does(Call::Serves(b"/auto", 0, 300)),
     Step::Does(Call::Serves(b"/net", 1, 60)),
     Step::Does(Call::Attaches(2, 1, b"/auto")),
@@ -280,6 +292,7 @@ static ATTACHED_AGAIN: [Step<Call>; 12] = [
     Step::Does(Call::Holds(2, 9)),
     Step::Does(Call::Takes(1, Mail(MISSING, 2, b"two", 6), OLD_ATTACH)),
     Step::Does(Call::Takes(9, Mail(MISSING, 2, b"two", 6), NONE)),
+    Step::Does(Call::Copies),
     Step::Refused(Call::Attaches(3, 2, b"/net"), Errno::EEXIST),
     Step::Does(Call::Attaches(3, 2, b"/auto")),
     Step::Does(Call::Holds(2, 9)),
@@ -291,11 +304,12 @@ fn attached_again() -> Example<Call> {
 }
 
 /// The entry of a key, and that of the wildcard, which has the key in its path.
-static ENTRIES: [Step<Call>; 9] = [
+static ENTRIES: [Step<Call>; 10] = [
     Step::Does(Call::Attaches(2, 1, b"/auto")),
     Step::Does(Call::Takes(1, Mail(MISSING, 2, b"home", 5), NONE)),
     Step::Does(Call::Takes(1, Mail(MISSING, 2, b"work", 6), NONE)),
     Step::Does(Call::Finishes(5)),
+    Step::Does(Call::Copies),
     Step::Does(Call::Finishes(6)),
     Step::Does(Call::MountIds(5, b"/home")),
     Step::Does(Call::MountIds(6, b"/any/work")),

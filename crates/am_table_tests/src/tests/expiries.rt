@@ -15,12 +15,13 @@ const NOW: Ask = Ask(2, 0, 0, true);
 const LATE: Ask = Ask(2, 600, 9000, false);
 
 /// The autofs is mount 2, home is mount 3 and work mount 4.
-static TWO_MOUNTED: [Step<Call>; 5] = [
+static TWO_MOUNTED: [Step<Call>; 6] = [
     Step::Does(Call::Indirect(1, b"/auto", 2)),
     Step::Does(Call::Mount(2, b"/home", 9)),
     Step::Does(Call::Mount(2, b"/work", 9)),
     Step::Does(Call::Used(WORK, 200)),
     Step::Does(Call::Used(HOME, 100)),
+    Step::Does(Call::Copies),
 ];
 
 fn two_mounted() -> &'static [Step<Call>] {
@@ -113,8 +114,9 @@ fn ties() -> Example<Call> {
     Example("ties go by the bytes of names", &TIES)
 }
 
-static OPEN_TOKENS: [Step<Call>; 5] = [
+static OPEN_TOKENS: [Step<Call>; 6] = [
     Step::Does(Call::Expires(7, HOME)),
+    Step::Does(Call::Copies),
     Step::Does(Call::Picks(NOW, Some(WORK))),
     Step::Does(Call::Picks(LATE, Some(WORK))),
     Step::Does(Call::IsPending(8, WORK)),
@@ -141,10 +143,11 @@ fn not_mounted() -> Example<Call> {
     )
 }
 
-static BUSY: [Step<Call>; 8] = [
+static BUSY: [Step<Call>; 9] = [
     // The root of the autofs may be in use.
     Step::Does(Call::Enters(9, 2)),
     Step::Does(Call::Enters(7, 3)),
+    Step::Does(Call::Copies),
     Step::Does(Call::Picks(NOW, Some(WORK))),
     Step::Does(Call::Leaves(7)),
     Step::Does(Call::Picks(NOW, Some(HOME))),

@@ -61,6 +61,8 @@ enum Call {
     LastGroup(u64),
     AreGroups(&'static [u64]),
     Members(usize),
+    /// They go on as a copy of themselves.
+    Copies,
 }
 
 fn fresh(groups: &mut Groups, group: u64) -> Result<bool, Errno> {
@@ -200,6 +202,12 @@ impl Table {
         Ok(true)
     }
 
+    fn go_on_as_copy(&mut self, alloc: Global) -> Result<bool, Errno> {
+        let copy = self.0.copy(alloc)?;
+        self.0 = copy;
+        Ok(true)
+    }
+
     fn chain(&mut self, alloc: Global, count: u64) -> Result<bool, Errno> {
         self.0 = chain(alloc, count)?;
         Ok(true)
@@ -236,6 +244,7 @@ impl Stage for Table {
             Call::LastGroup(group) => Ok(self.0.last_group() == GroupId(group)),
             Call::AreGroups(expected) => Ok(are_groups(&self.0, expected)),
             Call::Members(count) => Ok(self.0.members().len() == count),
+            Call::Copies => self.go_on_as_copy(alloc),
         }
     }
 }
@@ -270,7 +279,8 @@ fn tests_in_order() -> Example<Call> {
 }
 
 /// Both groups are there before any mount is.
-static GROUPS_FIRST: [Step<Call>; 20] = [
+static GROUPS_FIRST: [Step<Call>; 23] = [
+    Step::Does(Call::Copies),
     Step::Does(Call::Fresh(FIRST)),
     Step::Does(Call::FreshUnder(FIRST, SECOND)),
     Step::Does(Call::Adds(2, Part::InGroup(FIRST))),
@@ -280,11 +290,13 @@ static GROUPS_FIRST: [Step<Call>; 20] = [
     Step::Does(Call::HasState(3, Some(MountState::Shared))),
     Step::Does(Call::HasState(4, Some(MountState::SharedSlave))),
     Step::Does(Call::HasState(5, Some(MountState::Slave))),
+    Step::Does(Call::Copies),
     Step::Does(Call::Receive(2, &[3, 4, 5])),
     Step::Does(Call::Receive(4, &[5])),
     Step::Does(Call::Receive(5, &[])),
     Step::Does(Call::Makes(4, Change::MakePrivate)),
     Step::Does(Call::HasState(5, Some(MountState::Slave))),
+    Step::Does(Call::Copies),
     Step::Does(Call::Receive(3, &[2, 5])),
     Step::Does(Call::Makes(2, Change::MakeSlave)),
     Step::Does(Call::Makes(3, Change::MakeSlave)),

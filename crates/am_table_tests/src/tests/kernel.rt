@@ -15,7 +15,7 @@ const OTHER: Trap = Trap(3, b"other");
 const DATA: Trap = Trap(5, b"");
 
 /// Attachment 1 is old. File systems 3 and 4 are indirect, 5 is direct.
-static ATTACHED: [Step<Call>; 8] = [
+static ATTACHED: [Step<Call>; 9] = [
     Step::Does(Call::Indirect(b"/gone", 2)),
     Step::Does(Call::Indirect(b"/auto", 3)),
     Step::Does(Call::Indirect(b"/next", 4)),
@@ -24,6 +24,7 @@ static ATTACHED: [Step<Call>; 8] = [
     Step::Refused(Call::Indirect(b"/auto/none", 6), Errno::ENOENT),
     Step::Refused(Call::Direct(b"/auto", 6), Errno::EPERM),
     Step::Refused(Call::AdminCatatonic(1), Errno::EINVAL),
+    Step::Does(Call::Copies),
 ];
 
 fn attached() -> &'static [Step<Call>] {
@@ -81,9 +82,10 @@ fn mounts() -> Example<Call> {
 }
 
 /// A token is acknowledged once, under the attachment of its own file system.
-static ANSWERS: [Step<Call>; 11] = [
+static ANSWERS: [Step<Call>; 12] = [
     Step::Does(Call::Walk(7, b"/auto/home", 1, Told::Waits(1))),
     Step::Does(Call::Walk(8, b"/next/x", 1, Told::Waits(2))),
+    Step::Does(Call::Copies),
     Step::Refused(Call::Asks(Asked::Ready(9, 9), Told::Done), Errno::EPERM),
     Step::Refused(Call::Asks(Asked::Ready(1, 9), Told::Done), Errno::EPERM),
     Step::Refused(Call::Asks(Asked::Ready(2, 9), Told::Done), Errno::EINVAL),
@@ -106,7 +108,7 @@ fn answers() -> Example<Call> {
 }
 
 /// Home and work are mounted. Home is last used at 100, and due after 60 seconds.
-static USED: [Step<Call>; 8] = [
+static USED: [Step<Call>; 9] = [
     Step::Does(Call::Indirect(b"/auto", 2)),
     Step::Does(Call::Mkdir(1, Trap(2, b"home"))),
     Step::Does(Call::MountOn(1, Trap(2, b"home"), 3)),
@@ -115,6 +117,7 @@ static USED: [Step<Call>; 8] = [
     Step::Does(Call::Walk(7, b"/auto/home", 100, Told::Arrives(3))),
     Step::Does(Call::Leave(7)),
     Step::Does(Call::Sees(Asked::SetTimeout(1, 2, 60), Told::Done, &[])),
+    Step::Does(Call::Copies),
 ];
 
 fn used() -> &'static [Step<Call>] {

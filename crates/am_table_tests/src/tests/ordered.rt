@@ -11,9 +11,17 @@ enum Call {
     RemoveIndex(usize, Option<u32>),
     Get(u32, Option<u32>),
     Clear,
+    /// It goes on as a copy of itself.
+    Copy,
 }
 
-fn answers(map: &mut OrderedMap<u32, u32>, call: &Call) -> Result<bool, AllocError> {
+fn go_on_as_copy(alloc: Global, map: &mut OrderedMap<u32, u32>) -> Result<bool, AllocError> {
+    let copy = map.copy(alloc)?;
+    *map = copy;
+    Ok(true)
+}
+
+fn answers(alloc: Global, map: &mut OrderedMap<u32, u32>, call: &Call) -> Result<bool, AllocError> {
     match call {
         Call::Insert(key, value) => {
             map.insert(*key, *value)?;
@@ -33,6 +41,7 @@ fn answers(map: &mut OrderedMap<u32, u32>, call: &Call) -> Result<bool, AllocErr
             map.clear();
             Ok(true)
         }
+        Call::Copy => go_on_as_copy(alloc, map),
     }
 }
 
@@ -48,7 +57,8 @@ fn has_keys(map: &OrderedMap<u32, u32>, keys: &[u32]) -> bool {
     true
 }
 
-static CALLS: [(Call, &[u32]); 18] = [
+static CALLS: [(Call, &[u32]); 22] = [
+    (Call::Copy, &[]),
     (Call::Insert(5, 50), &[5]),
     (Call::Insert(3, 30), &[5, 3]),
     (Call::InsertReserved(9, 90), &[5, 3, 9]),
@@ -60,18 +70,21 @@ static CALLS: [(Call, &[u32]); 18] = [
     (Call::Remove(5, None), &[3, 9, 1]),
     (Call::Insert(7, 70), &[3, 9, 1, 7]),
     (Call::Remove(9, Some(90)), &[3, 1, 7]),
+    (Call::Copy, &[3, 1, 7]),
     (Call::Insert(5, 52), &[3, 1, 7, 5]),
+    (Call::Copy, &[3, 1, 7, 5]),
     (Call::RemoveIndex(1, Some(1)), &[3, 7, 5]),
     (Call::RemoveIndex(2, Some(5)), &[3, 7]),
+    (Call::Copy, &[3, 7]),
     (Call::RemoveIndex(2, None), &[3, 7]),
     (Call::Get(5, None), &[3, 7]),
     (Call::Clear, &[]),
     (Call::Insert(5, 53), &[5]),
 ];
 
-fn all_answer(map: &mut OrderedMap<u32, u32>) -> Result<bool, AllocError> {
+fn all_answer(alloc: Global, map: &mut OrderedMap<u32, u32>) -> Result<bool, AllocError> {
     for (call, keys) in CALLS.iter() {
-        if !answers(map, call)? || !has_keys(map, keys) {
+        if !answers(alloc, map, call)? || !has_keys(map, keys) {
             return Ok(false);
         }
     }
@@ -80,7 +93,7 @@ fn all_answer(map: &mut OrderedMap<u32, u32>) -> Result<bool, AllocError> {
 
 fn plays(alloc: Global) -> Result<bool, AllocError> {
     let mut map = OrderedMap::new(alloc);
-    let all_answer = all_answer(&mut map);
+    let all_answer = all_answer(alloc, &mut map);
     drop(map);
     all_answer
 }

@@ -151,6 +151,8 @@ pub enum Call {
     Children(u64, &'static [u64]),
     /// Whether a mount of this number can be added to those that there are.
     CanAdd(u64, bool),
+    /// All go on as copies of themselves.
+    Copies,
 }
 
 /// What walks and picks look at.
@@ -428,6 +430,22 @@ impl Parts {
         self.subtree.tree().can_add(&[row])
     }
 
+    fn copies(&self, alloc: Global) -> Result<Parts, Errno> {
+        Ok(Parts {
+            subtree: self.subtree.copy(alloc)?,
+            triggers: self.triggers.copy(alloc)?,
+            failures: self.failures.copy(alloc)?,
+            waits: self.waits.copy(alloc)?,
+            uses: self.uses.copy(alloc)?,
+        })
+    }
+
+    fn go_on_as_copies(&mut self, alloc: Global) -> Result<bool, Errno> {
+        let copies = self.copies(alloc)?;
+        *self = copies;
+        Ok(true)
+    }
+
     /// What changes nothing.
     fn look(&self, alloc: Global, call: Call) -> Result<bool, Errno> {
         match call {
@@ -517,6 +535,7 @@ impl Stage for Parts {
             Call::Keys(mount, fs, count) => self.use_keys(alloc, mount, fs, count),
             Call::Enters(walker, mount) => self.enter(walker, mount),
             Call::Leaves(walker) => self.leave(walker),
+            Call::Copies => self.go_on_as_copies(alloc),
             _ => self.look(alloc, call),
         }
     }

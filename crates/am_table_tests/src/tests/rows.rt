@@ -13,6 +13,8 @@ enum Call {
     TakeOut(usize),
     TakeRange(usize, usize),
     KeepEven,
+    /// They go on as a copy of themselves.
+    Copy,
 }
 
 fn append(alloc: Global, rows: &mut Rows<u32>, more: &[u32]) -> Result<bool, AllocError> {
@@ -55,6 +57,12 @@ fn take_range(rows: &mut Rows<u32>, at: usize, count: usize) -> bool {
     true
 }
 
+fn go_on_as_copy(alloc: Global, rows: &mut Rows<u32>) -> Result<bool, AllocError> {
+    let copy = rows.copy(alloc)?;
+    *rows = copy;
+    Ok(true)
+}
+
 fn answers(alloc: Global, rows: &mut Rows<u32>, call: &Call) -> Result<bool, AllocError> {
     match call {
         Call::Push(row) => {
@@ -68,6 +76,7 @@ fn answers(alloc: Global, rows: &mut Rows<u32>, call: &Call) -> Result<bool, All
         Call::Pop(row) => Ok(rows.pop() == *row),
         Call::TakeOut(at) => Ok(take_out(rows, *at)),
         Call::TakeRange(at, count) => Ok(take_range(rows, *at, *count)),
+        Call::Copy => go_on_as_copy(alloc, rows),
         Call::KeepEven => {
             rows.retain(|row| *row % 2 == 0);
             Ok(true)
@@ -80,11 +89,13 @@ fn are(rows: &Rows<u32>, left: &[u32]) -> bool {
 }
 
 /// The first rows go one after another, then others near to both ends, and then some in one piece.
-static CALLS: [(Call, &[u32]); 33] = [
+static CALLS: [(Call, &[u32]); 36] = [
+    (Call::Copy, &[]),
     (Call::Push(1), &[1]),
     (Call::Append(&[2, 3, 4, 5, 6]), &[1, 2, 3, 4, 5, 6]),
     (Call::TakeOut(0), &[2, 3, 4, 5, 6]),
     (Call::TakeOut(0), &[3, 4, 5, 6]),
+    (Call::Copy, &[3, 4, 5, 6]),
     (Call::TakeOut(1), &[3, 5, 6]),
     (Call::Insert(0, 7), &[7, 3, 5, 6]),
     (Call::Insert(4, 8), &[7, 3, 5, 6, 8]),
@@ -108,6 +119,7 @@ static CALLS: [(Call, &[u32]); 33] = [
     ),
     (Call::TakeRange(1, 2), &[15, 18, 19, 20, 21, 22, 23, 24]),
     (Call::TakeRange(0, 1), &[18, 19, 20, 21, 22, 23, 24]),
+    (Call::Copy, &[18, 19, 20, 21, 22, 23, 24]),
     (Call::TakeRange(4, 2), &[18, 19, 20, 21, 24]),
     (Call::TakeRange(2, 0), &[18, 19, 20, 21, 24]),
     (Call::TakeRange(5, 0), &[18, 19, 20, 21, 24]),

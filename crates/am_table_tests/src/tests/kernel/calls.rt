@@ -163,6 +163,8 @@ pub enum Call {
     Asks(Asked, Told),
     /// And what is seen of it.
     Sees(Asked, Told, &'static [Sight]),
+    /// It goes on as a copy of itself.
+    Copies,
 }
 
 fn attach(
@@ -324,6 +326,14 @@ fn begins(alloc: Global, kernel: &mut Kernel, negative: u64) -> Result<bool, Err
     Ok(true)
 }
 
+fn go_on_as_copy(alloc: Global, kernel: &mut Kernel) -> Result<bool, Errno> {
+    let copy = kernel.copy(alloc)?;
+    let old = mem::replace(kernel, copy);
+    // It goes by a call, which is cheaper to check.
+    drop(old);
+    Ok(true)
+}
+
 fn make(
     alloc: Global,
     kernel: &mut Kernel,
@@ -373,6 +383,7 @@ fn make(
         Call::Leave(walker) => leave(kernel, walker, seen),
         Call::Asks(asked, told) => asks(alloc, kernel, asked, told, seen),
         Call::Sees(asked, told, sights) => sees(alloc, kernel, asked, told, sights, seen),
+        Call::Copies => go_on_as_copy(alloc, kernel),
     }
 }
 

@@ -15,7 +15,7 @@ const ROOT: Trap = Trap(2, b"");
 /// mount at the trigger `home` failed, and that lasts for one second more (`f`) or no longer (`o`).
 /// The trigger is expiring (`x`), a mount is pending (`p`), something is mounted on it at mount 4
 /// (`m`), the file system is catatonic (`c`), the directory is made (`k`), something is mounted on
-/// it at mount 2, the daemon's (`d`).
+/// it at mount 2, the daemon's (`d`). All go on as copies of themselves (`2`).
 pub const INDIRECT: Setting = Setting(
     &[Call::Indirect(1, b"/auto", 2), Call::Copy],
     &[
@@ -27,6 +27,7 @@ pub const INDIRECT: Setting = Setting(
         Fact(b'c', Call::Catatonic(2)),
         Fact(b'k', Call::Makes(HOME)),
         Fact(b'd', Call::Mount(2, b"/home", 7)),
+        Fact(b'2', Call::Copies),
     ],
 );
 
@@ -44,9 +45,10 @@ const DIRECT: Setting = Setting(
     ],
 );
 
-static DECIDES: [Step<Case>; 18] = [
+static DECIDES: [Step<Case>; 23] = [
     Step::Does(Case::In(INDIRECT, 1)),
     Step::Does(Case::Walk(b"f", b"/auto/home", &[], End::Fails(Errno::EPERM))),
+    Step::Does(Case::Walk(b"f2", b"/auto/home", &[], End::Fails(Errno::EPERM))),
     Step::Does(Case::Walk(b"kf", b"/auto/home", &[], End::Fails(Errno::EPERM))),
     Step::Does(Case::Walk(b"f", b"/auto/home/x", &[], End::Fails(Errno::EPERM))),
     Step::Does(Case::Walk(b"o", b"/auto/home", &[], End::Notifies(HOME))),
@@ -55,14 +57,18 @@ static DECIDES: [Step<Case>; 18] = [
     Step::Does(Case::Walk(b"f", b"/auto/work", &[], End::Notifies(Trap(2, b"work")))),
     Step::Does(Case::Walk(b"f", b"/auto", &[], End::At(4, b""))),
     Step::Does(Case::Walk(b"xf", b"/auto/home", &[], End::Waits(1))),
+    Step::Does(Case::Walk(b"x2f2", b"/auto/home", &[], End::Waits(1))),
     Step::Does(Case::Walk(b"pf", b"/auto/home", &[], End::Waits(1))),
     Step::Does(Case::Walk(b"mf", b"/auto/home", &[HOME], End::At(5, b""))),
+    Step::Does(Case::Walk(b"2m2f2", b"/auto/home", &[HOME], End::At(5, b""))),
     Step::Does(Case::Walk(b"cf", b"/auto/home", &[], End::Fails(Errno::ENOENT))),
     Step::Does(Case::Walk(b"ckf", b"/auto/home", &[], End::At(4, b"/home"))),
+    Step::Does(Case::Walk(b"c2k2f", b"/auto/home", &[], End::At(4, b"/home"))),
     Step::Does(Case::Walk(b"df", b"/auto/home", &[], End::Fails(Errno::ELOOP))),
     Step::Does(Case::In(INDIRECT, 0)),
     Step::Does(Case::Walk(b"f", b"/auto/home", &[], End::Fails(Errno::EPERM))),
     Step::Does(Case::Walk(b"df", b"/auto/home", &[HOME], End::At(5, b""))),
+    Step::Does(Case::Walk(b"2d2f", b"/auto/home", &[HOME], End::At(5, b""))),
 ];
 
 fn decides() -> Example<Case> {
