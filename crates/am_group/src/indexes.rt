@@ -1,6 +1,6 @@
 //! The mounts and the peer groups by the groups that they name.
 
-ghost use Rattle.std.specs.Prelude.{◌≡◌, ◌≤◌, length, take, OnOk, OnErr};
+ghost use Rattle.std.specs.Prelude.{◌≡◌, ◌≤◌, length, take, IfOk, OnOk, OnErr};
 ghost use Rattle.am_index.specs.{AddsTo, DropsLast, ListsRise, SameLists, TakesFrom};
 ghost use Rattle.am_group.specs.declared.indexes.Indexes.{Indexes};
 ghost use Rattle.am_group.specs.Changes.{is_just};

@@ -1,4 +1,4 @@
-use Rattle.std.proofs.Common.{take, Some, is_some, option_map, sym, ap, ◌∙◌}
+use Rattle.std.proofs.Common.{take, is_some, option_map, sym, ap, ◌∙◌}
 use Rattle.std.specs.Map.{lookup}
 use Rattle.std.specs.Map.Iter.{deref_pair}
 use Rattle.indexmap.specs.IndexMap.{insert_entry}
