@@ -4,4 +4,4 @@ use Rattle.am_wait.proofs.seats.copy_of.Goals as goal
 
 pub returns : goal.returns
 returns c =
-    same_waits c.args.slab.now c.in_ok-copy.field-0 c.in_ok-copy.ensures.cases (λ v w h. search rules)
+    same_waits c.args.slab.now c.in_ok-copy.copy c.in_ok-copy.ensures.cases (λ v w h. search rules)
