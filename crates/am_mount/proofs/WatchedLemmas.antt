@@ -1,5 +1,5 @@
 -- What a write at the place of a watched file system's list changes.
-use Rattle.std.proofs.Common.{◌≡◌, ℕ, Bool, true, false, cond, nat_eq, List, slice_get, Option, Some, None, refl, sym, ap, subst, ◌∙◌}
+use Rattle.std.proofs.Common.{◌≡◌, ◌≤◌, ℕ, inl, inr, Bool, true, false, cond, nat_eq, List, slice_get, Option, Some, None, refl, sym, ap, subst, ◌∙◌}
 use Rattle.std.specs.Prelude.{option_map, if◌then◌else◌}
 use Rattle.std.proofs.lemmas.Bool.{eqb-true}
 use Rattle.std.proofs.lemmas.Cmp.{nat_eq_equiv}
@@ -7,6 +7,8 @@ use Rattle.std.proofs.lemmas.Map.Entries.{hash_map_get_place}
 use Rattle.indexmap.specs.IndexMap.{IndexMap, get, keys, values, with_value_at, IsUnique}
 use Rattle.indexmap.proofs.CallerLemmas.{updates-with_value_at}
 use Rattle.am_ordered.specs.RowTable.{RowTable}
+use Rattle.am_mount.specs.Watched.{BeginsToWatch, Watches}
+use Rattle.am_mount.specs.declared.watched.Watched.{Watched}
 use Rattle.am_index.proofs.EntryLemmas.{entry_of}
 
 -- the mounts of a list that was looked up
@@ -65,3 +67,19 @@ module _ {S : Type 0} (m : IndexMap ℕ (RowTable ℕ) S) (unique : IsUnique nat
       go true (Some mounts) = refl
       go false None = refl
       go false (Some mounts) = refl
+
+-- what is watched stays so
+pub watched_yet : (w : Watched) → Watches w w
+watched_yet w = record { lists = λ fs. inl refl; next = refl }
+
+-- where what is watched stays so, and then once more, it stays so
+pub watched_too : (a b c : Watched) → Watches a b → Watches b c → Watches a c
+watched_too a b c first then_ = record {
+  lists = λ fs. by fs (then_.lists fs) (first.lists fs);
+  next = then_.next ∙ first.next;
+}
+  where
+    by : (fs : ℕ) → BeginsToWatch b c fs → BeginsToWatch a b fs → BeginsToWatch a c fs
+    by fs (inl same) (inl as_before) = inl (same ∙ as_before)
+    by fs (inl same) (inr begun) = inr (same ∙ begun.0, begun.1)
+    by fs (inr begun) one = inr (begun.0, subst (λ (n : ℕ). n ≤ fs) first.next begun.1)

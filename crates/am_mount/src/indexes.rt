@@ -56,6 +56,15 @@ impl Indexes {
         self.by_fs.watch(fs.0 as u64)
     }
 
+    /// Watches the file systems that another one watches.
+    pub fn watch_all(&mut self, other: &Indexes) -> Result<(), AllocError>
+        ensures by_ns { self.new.by_ns ≡ self.old.by_ns }
+        ensures by_fs { Watches self.old.by_fs self.new.by_fs }
+        ensures families { self.new.families ≡ self.old.families }
+    {
+        self.by_fs.watch_all(&other.by_fs)
+    }
+
     /// Makes room for a mount that is mounted here, if it is mounted anywhere.
     fn make_room_at(&mut self, mountpoint: &Option<Position>) -> Result<Option<Mounted>, AllocError>
         ensures same { HaveSameLists self.old self.new }

@@ -310,13 +310,7 @@ impl Tree {
     fn watch_all(&mut self, other: &Tree) -> Result<(), AllocError>
         ensures { self.new ≡ self.old }
     {
-        let watched = &other.indexes.by_fs;
-        for index in 0..watched.len() {
-            if let Some(fs) = watched.at(index) {
-                self.watch(FsId(fs as u32))?;
-            }
-        }
-        Ok(())
+        self.indexes.watch_all(&other.indexes)
     }
 
     /// The same mounts once more, of which the same are watched.

@@ -1,7 +1,6 @@
 //! The mounts of file systems that are watched.
 
-ghost use Rattle.std.specs.Prelude.{◌≡◌, ◌<◌, ◌≤◌, ℕ, nat_eq, [], length, slice_get, Some, None, OnOk, OnErr, IfOk, IfSome, IfNone};
-ghost use Rattle.indexmap.specs.IndexMap.{keys};
+ghost use Rattle.std.specs.Prelude.{◌≡◌, ◌<◌, ◌≤◌, ℕ, nat_eq, [], Some, None, OnOk, OnErr, IfOk, IfSome, IfNone};
 ghost use Rattle.am_mount.specs.Watched.{watched, AddsWatched, RisesIfAny, RoomIfWatched, SameWatched, TakesWatched, Watches};
 
 use crate::few::take_out;
@@ -31,21 +30,6 @@ impl Watched {
         }
     }
 
-    /// The file system at this index, of those that are watched.
-    pub fn at(&self, index: usize) -> Option<u64>
-        ensures { result ≡ slice_get (keys self.now.lists) index }
-    {
-        let (fs, _) = self.lists.get_index(index)?;
-        Some(*fs)
-    }
-
-    /// How many file systems are watched.
-    pub fn len(&self) -> usize
-        ensures { result ≡ length (keys self.now.lists) }
-    {
-        self.lists.len()
-    }
-
     /// The mounts of the file system, if it is watched.
     pub fn list(&self, fs: u64) -> Option<&[MountId]>
         ensures some { IfSome result (λ mounts. watched self.now fs ≡ Some mounts.now) }
@@ -63,6 +47,19 @@ impl Watched {
             return Ok(());
         }
         self.lists.insert(fs, Rows::new(self.alloc))?;
+        Ok(())
+    }
+
+    /// Watches the file systems that another one watches.
+    #[tactic(auto, using(crate::proofs::WatchedLemmas::watched_yet, crate::proofs::WatchedLemmas::watched_too))]
+    pub fn watch_all(&mut self, other: &Watched) -> Result<(), AllocError>
+        ensures { Watches self.old self.new }
+    {
+        for place in 0..other.lists.len() {
+            if let Some((fs, _)) = other.lists.get_index(place) {
+                self.watch(*fs)?;
+            }
+        }
         Ok(())
     }
 
