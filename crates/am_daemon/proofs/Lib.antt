@@ -4,4 +4,5 @@ pub mod JobTableLemmas
 pub mod DeliveryLemmas
 pub mod OnceLemmas
 pub mod ByFsLemmas
+pub mod CopyLemmas
 pub mod KnownLemmas

@@ -155,9 +155,10 @@ fn copy_row(
     ensures entries { OnOk result (copies.new.entries ≡ take (index + 1) places.now.entries) }
     ensures room { copies.old.room ≤ copies.new.room + 1 }
 {
-    if let Some((fs, place)) = places.get_index(index) {
-        copies.insert_reserved(*fs, place.copy(alloc)?);
-    }
+    let Some((fs, place)) = places.get_index(index) else {
+        return Ok(());
+    };
+    copies.insert_reserved(*fs, place.copy(alloc)?);
     Ok(())
 }
 
