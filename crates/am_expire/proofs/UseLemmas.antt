@@ -1,7 +1,9 @@
 -- Walkers that enter and leave.
 use Rattle.std.proofs.Common.{◌≡◌, ◌+◌, ℕ, Bool, true, false, cond, not, ◌==◌, List, [], ◌∷◌, ◌++◌, Option, Some, None, refl, sym, ap, ◌∙◌, arith}
 use Rattle.std.specs.Prelude.{find, is_some}
+use Rattle.std.specs.List.{AllZip}
 use Rattle.std.specs.Option.{option_map}
+use Rattle.std.proofs.lemmas.List.Elements.{same_from_all_zip}
 use Rattle.std.proofs.lemmas.List.Sums.{sum_by-append}
 use Rattle.std.proofs.lemmas.Bool.Decides.{nat_tests, Decides-eqb}
 use Rattle.am_names.proofs.Basics.{equal_by_test, some_injective}
@@ -120,5 +122,13 @@ leaves_single (r ∷ rows) walker single = by_test (r.walker == walker) (leaves_
     by_test : (b : Bool) → IsSingle (left walker rows) → IsSingle (cond (not b) (r ∷ left walker rows) (left walker rows))
     by_test true later = later
     by_test false later = (still_free rows walker r.walker single.0, later)
+
+-- a number beside another, and a clone of it
+abbrev pub IsSamePair : ℕ × ℕ → ℕ × ℕ → Type 0
+IsSamePair p q = (q.0 ≡ p.0) × (q.1 ≡ p.1)
+
+-- the clone of the counts has the same
+pub same_counts : (es fs : List (ℕ × ℕ)) → AllZip IsSamePair es fs → fs ≡ es
+same_counts es fs clones = same_from_all_zip IsSamePair es fs clones (λ p q h. (λ i. (h.0 i, h.1 i)))
 
 -- ---- who is inside a mount
