@@ -16,6 +16,3 @@ invariant_of-result c =
           ∙ c.self.invariant.counts mount
           ∙ ap (λ (es : List (ℕ × ℕ)). use_count (map use_of es) mount) (sym mounts);
     }
-
-pub returns : goal.returns
-returns c = ap (map use_of) c.in_ok-copy.ensures.entries ∙ c.self.view_is
