@@ -248,7 +248,7 @@ TALKS = {
         (b"!save", b""), (b"deliver 1", b"job 1\n"), (b"x", b"fault 11:1 BadEvent expected the word of an event\n"),
         (b"!back", b""), (b"x", b"fault 10:1 BadEvent expected the word of an event\n"), (b"?next 1", b"none\n"),
         (b"?waiting 7", b"waiting 1\n"), (b"deliver 1", b"job 1\n"), (b"act 1 ok", b"did mkdir\n"), (b" !back ", b""),
-        (b"!save\t", b""), (b"die", b"ok\n"), (b"?waiting 7", b"no\n"), (b"!back", b""), (b"?waiting 7", b"waiting 1\n"),
+        (b"!save\t", b""), (b"admincat 2", b"ok\n"), (b"?waiting 7", b"no\n"), (b"!back", b""), (b"?waiting 7", b"waiting 1\n"),
         (b"!reset", b""), (b"!save", b"fault 1 NoWorld\n"), (b"map m", b""), (b"!back", b""), (b"!save", b""), (b"end", b""),
         (b"!back", b""), (b"?waiting 7", b"waiting 1\n"), (b"deliver 1", b"job 1\n"), (b"?lawful", b"yes\n"),
     ],
