@@ -31,7 +31,7 @@ import places  # noqa: E402
 
 PATIENCE = 60
 # What stands below the first line of a command line that is none, and before it what may be meant by it.
-COMMAND_LINES_THERE_ARE = b"""usage: automount_cli script|judge|import < FILE
+COMMAND_LINES_THERE_ARE = b"""usage: automount_cli script|serve|judge|import < FILE
        automount_cli trace [--plain] < FILE
        automount_cli draw [--from N] [--to N] < FILE
        automount_cli world [--namespace N] < FILE
@@ -488,7 +488,8 @@ def refuses_each(program, refuse, words, given, is_well):
 
 # A session, each of whose allocations is refused.
 SESSION = (b"master", b"/auto m", b"end", b"map m", b"home srv:/home", b"end", b"events", b"attach /auto", b"walk 7 0 /auto/home 5 room",
-           b"?world", b"deliver 1", b"act 1 ok", b"act 1 ok", b"?trace", b"nscopy 0", b"?world 1", b"!reset", b"events", b"mount 0 /a")
+           b"?world", b"deliver 1", b"act 1 ok", b"!save", b"act 1 ok", b"!back", b"act 1 ok", b"?trace", b"nscopy 0",
+           b"?world 1", b"!reset", b"events", b"mount 0 /a")
 
 
 def served(program, lines):
@@ -507,6 +508,9 @@ def is_served_well(program):
     def judge(ran):
         status, wrote, said = ran
         found = replies_of(wrote)
+        if ran == (1, b"", b"fault: NoMemory\n"):
+            # There is none for the words of the command.
+            return True
         if status != 0 or said or len(found) != len(whole):
             return False
         at = next((number for number, (one, other) in enumerate(zip(found, whole)) if one != other), None)
@@ -516,8 +520,11 @@ def is_served_well(program):
             return False
         if SESSION[at] == b"events":
             # Another head begins.
-            return all(it == b"" or b"NoWorld" in it for it in found[at + 1:SESSION.index(b"!reset")])
-        return found[:at] + found[at + 1:] == served(program, SESSION[:at] + SESSION[at + 1:])
+            return all(it == b"" or b"NoWorld" in it or b"NotSaved" in it for it in found[at + 1:SESSION.index(b"!reset")])
+        # An event that is refused was taken, as a line that is skipped is; a line with a fault wasn't.
+        instead = (b"#",) if found[at] == b"err 10\n" else ()
+        others = served(program, SESSION[:at] + instead + SESSION[at + 1:])
+        return found[:at] + found[at + 1:] == others[:at] + others[at + len(instead):]
 
     return judge
 
