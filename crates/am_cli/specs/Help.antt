@@ -33,8 +33,8 @@ program_help =
     ++ (codes "             --walkers N, --workers N, --rounds N\n"
     ++ (codes "  help     writes this, or what a COMMAND does; so do --help and -h\n\n"
     ++ (codes "--version and -V write the version.\n"
-    ++ (codes "Exit status: 0 done; 1 a fault, told on standard error, or a trace that breaks\n"
-    ++ codes "a law; 2 no command line.\nExample: echo events | automount_cli world\n"))))))))))))))))))
+    ++ (codes "Exit status: 0 done; 1 a fault, or a trace that breaks a law; 2 no command line.\n"
+    ++ codes "Example: echo events | automount_cli world\n"))))))))))))))))))
 
 -- what help says of the command `script`
 abbrev pub script_help : List ℕ
@@ -100,8 +100,8 @@ serve_help =
     ++ (codes "  !reset             another head begins\n\n"
     ++ (codes "Options:\n"
     ++ (codes "  -h, --help  write this\n\n"
-    ++ (codes "Exit status: 0 the input came to its end; 1 a fault of a stream, told on standard\n"
-    ++ (codes "error with its line.\n"
+    ++ (codes "Exit status: 0 the input came to its end; 1 a fault of a stream, told on\n"
+    ++ (codes "standard error with its line.\n"
     ++ codes "Example: echo '!reset' | automount_cli serve\n")))))))))))))))
 
 -- what help says of the command `judge`

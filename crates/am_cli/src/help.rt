@@ -36,8 +36,7 @@ Commands:
   help     writes this, or what a COMMAND does; so do --help and -h
 
 --version and -V write the version.
-Exit status: 0 done; 1 a fault, told on standard error, or a trace that breaks
-a law; 2 no command line.
+Exit status: 0 done; 1 a fault, or a trace that breaks a law; 2 no command line.
 Example: echo events | automount_cli world
 "
 }
@@ -138,8 +137,8 @@ of these is answered by its fault, and nothing has changed.
 Options:
   -h, --help  write this
 
-Exit status: 0 the input came to its end; 1 a fault of a stream, told on standard
-error with its line.
+Exit status: 0 the input came to its end; 1 a fault of a stream, told on
+standard error with its line.
 Example: echo '!reset' | automount_cli serve
 "
 }

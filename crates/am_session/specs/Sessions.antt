@@ -1,5 +1,5 @@
 -- A world that is played event by event, and what each call makes of it: own choice (docs/FORMATS.md, "Sessions").
-use Rattle.std.specs.Prelude.{◌≡◌, ◌⊎◌, ℕ, Bool, true, false, cond, List, [], ◌∷◌, length, drop, Option, None, Some, Result, Ok, Err}
+use Rattle.std.specs.Prelude.{◌≡◌, ◌⊎◌, ◌<◌, ℕ, Bool, true, false, cond, List, [], ◌∷◌, length, drop, Option, None, Some, Result, Ok, Err}
 use Rattle.am_machine.specs.{Event, Answer, setup_of, initial_state_of}
 use Rattle.am_machine.specs.State.{State}
 use Rattle.am_mountinfo.specs.{IsWritten, NotWritten}
@@ -144,14 +144,19 @@ pub record HasEvent (told : Told) (fault : ScriptFault) : Type 0 where
   pub parted : told ≡ record others { events = here ∷ others.events }
   pub is : fault ≡ fault_at here.line BadEvent
 
+-- the longest text of a head, in bytes: 16 TiB
+abbrev pub longest_head : ℕ
+longest_head = 17592186044416
+
 -- there is no memory for a copy of the text, or it is too long
-abbrev pub IsNotKept : ScriptFault → Type 0
-IsNotKept fault = (fault ≡ fault_at 1 NoMemory) ⊎ (fault ≡ fault_at 1 ReadFailed)
+abbrev pub IsNotKept : List ℕ → ScriptFault → Type 0
+IsNotKept head fault =
+    (fault ≡ fault_at 1 NoMemory) ⊎ ((longest_head < length head) × (fault ≡ fault_at 1 ReadFailed))
 
 -- no world begins
 abbrev pub NotBegun : List ℕ → ScriptFault → Type 0
 NotBegun head fault =
-    IsNotKept fault ⊎ (IsNoHead head fault ⊎ (EndsBefore (script_of None head) fault
+    IsNotKept head fault ⊎ (IsNoHead head fault ⊎ (EndsBefore (script_of None head) fault
     ⊎ (NoNext (script_of None head).told fault ⊎ HasEvent (script_of None head).told fault)))
 
 -- a session, or none for this fault

@@ -43,7 +43,7 @@ fn copied(alloc: Global, head: &[u8]) -> Result<Input, ScriptFault>
     ensures text { IfOk result (λ input. input.text.items ≡ head.now) }
     ensures whole { IfOk result (λ input. input.broke ≡ None) }
     ensures short { IfOk result (λ input. vec_len input.text < 2 ^ 62) }
-    ensures err { IfErr result IsNotKept }
+    ensures err { IfErr result (IsNotKept head.now) }
 {
     if head.len() > MOST {
         return Err(ScriptFault {
@@ -326,8 +326,10 @@ pub fn next_act(session: &Session, job: JobId) -> Option<&Act>
 pub fn token_awaited(session: &Session, walker: WalkerId) -> Option<Token>
     ensures { result ≡ awaited (wait_of session.now.world.kernel.waits.waits walker) }
 {
-    let wait = session.world.wait_of(walker)?;
-    awaited(&wait)
+    match session.world.wait_of(walker) {
+        Some(wait) => awaited(&wait),
+        None => None,
+    }
 }
 
 /// The token of a wait, unless that is acknowledged.
