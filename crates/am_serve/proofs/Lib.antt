@@ -1,3 +1,4 @@
+mod HeadLemmas
 mod ReadingLemmas
 mod ReplyLemmas
 mod SendLemmas

@@ -99,6 +99,7 @@ world_cut only lines number session old new fault loss (inr (inr cut)) =
 
 -- no world is written, which is told
 pub no_world : (only : Option ℕ) (lines : ℕ) (session : Session) (old new : Option (List ℕ)) (fault : ScriptFault) → fault.kind ≢ WriteFailed → NotWritten only (state_of session.world) 0 old new fault → IsWorldText only lines session (fault_text (lines + 1) (kind_word fault.kind) None) × Appends old new []
+unfolding state_of
 no_world only lines session old new fault other (inl nowhere) =
     (inr (inl (nowhere.nowhere, ap (λ (k : ScriptFaultKind). fault_text (lines + 1) (kind_word k) None) nowhere.kind)), nowhere.written)
 no_world only lines session old new fault other (inr (inl room)) =
