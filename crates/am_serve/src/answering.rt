@@ -1,6 +1,6 @@
 //! The reply to a line.
 
-ghost use Rattle.std.specs.Prelude.{◌≡◌, ◌+◌, ◌<◌, ◌≤◌, ◌^◌, List, ℕ, true, IfErr, OnOk};
+ghost use Rattle.std.specs.Prelude.{◌≡◌, ◌+◌, ◌-◌, ◌<◌, ◌^◌, List, ℕ, true, IfErr, OnOk};
 ghost use Rattle.am_script.specs.{is_long};
 ghost use Rattle.am_serve.specs.Keeping.{AreFew};
 ghost use Rattle.am_serve.specs.Replies.{Loses, Sends};
@@ -22,7 +22,7 @@ pub fn reply<W: Write>(
     line: &[u8],
     writer: &mut W,
 ) -> Result<(), ScriptFault>
-    requires { service.old.serving.lines + 1 < 2 ^ 62 }
+    requires { AreFew service.old (2 ^ 62 - 2) }
     ensures ok { OnOk result (Sends service.old line.now service.new (W.contents writer.old)
         (W.contents writer.new)) }
     ensures err { IfErr result (Loses service.old line.now service.new number

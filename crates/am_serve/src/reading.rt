@@ -1,7 +1,7 @@
 //! A session of which lines are read in pieces.
 
 ghost use Rattle.std.specs.Io.KnownBytes.{Keeps, Consumes, IsAtEnd};
-ghost use Rattle.std.specs.Prelude.{◌≡◌, ◌+◌, ◌<◌, ◌≤◌, ◌^◌, [], List, ℕ, Option, length, take, IfErr, IfNone, IfSome, OnOk};
+ghost use Rattle.std.specs.Prelude.{◌≡◌, ◌+◌, ◌-◌, ◌<◌, ◌≤◌, ◌^◌, [], List, ℕ, Option, length, take, IfErr, IfNone, IfSome, OnOk};
 ghost use Rattle.am_script.specs.{EndsNoLine, IsCut, fault_at};
 ghost use Rattle.am_script.specs.declared.fault.ScriptFaultKind.TheVariants.{ReadFailed};
 ghost use Rattle.am_serve.specs.Keeping.{AreFew};
@@ -56,7 +56,7 @@ fn reply_held<W: Write>(
     number: u64,
     writer: &mut W,
 ) -> Result<(), ScriptFault>
-    requires { service.old.serving.lines + 1 < 2 ^ 62 }
+    requires { AreFew service.old (2 ^ 62 - 2) }
     ensures ok { OnOk result ((line : List ℕ) → IsHeld held.now line
         → Sends service.old line service.new (W.contents writer.old) (W.contents writer.new)) }
     ensures err { IfErr result (λ fault. (line : List ℕ) → IsHeld held.now line
