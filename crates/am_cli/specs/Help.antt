@@ -33,8 +33,8 @@ program_help =
     ++ (codes "             --walkers N, --workers N, --rounds N\n"
     ++ (codes "  help     writes this, or what a COMMAND does; so do --help and -h\n\n"
     ++ (codes "--version and -V write the version.\n"
-    ++ (codes "Exit status: 0 done; 1 a fault, told on standard error, or a trace that breaks\n"
-    ++ codes "a law; 2 no command line.\nExample: echo events | automount_cli world\n"))))))))))))))))))
+    ++ (codes "Exit status: 0 done; 1 a fault, or a trace that breaks a law; 2 no command line.\n"
+    ++ codes "Example: echo events | automount_cli world\n"))))))))))))))))))
 
 -- what help says of the command `script`
 abbrev pub script_help : List ℕ
@@ -95,13 +95,14 @@ serve_help =
     ++ (codes "  ?world, ?world N   the world as it is, or the mounts of one namespace\n"
     ++ (codes "  ?next JOB          what a job does next\n"
     ++ (codes "  ?waiting W         the token on which a walker waits\n"
+    ++ (codes "  ?kind NS PATH      how a mount takes part in propagation\n"
     ++ (codes "  ?lawful            whether all that was observed is lawful\n"
     ++ (codes "  !reset             another head begins\n\n"
     ++ (codes "Options:\n"
     ++ (codes "  -h, --help  write this\n\n"
-    ++ (codes "Exit status: 0 the input came to its end; 1 a fault of a stream, told on standard\n"
-    ++ (codes "error with its line.\n"
-    ++ codes "Example: echo '!reset' | automount_cli serve\n"))))))))))))))
+    ++ (codes "Exit status: 0 the input came to its end; 1 a fault of a stream, told on\n"
+    ++ (codes "standard error with its line.\n"
+    ++ codes "Example: echo '!reset' | automount_cli serve\n")))))))))))))))
 
 -- what help says of the command `judge`
 abbrev pub judge_help : List ℕ

@@ -36,8 +36,7 @@ Commands:
   help     writes this, or what a COMMAND does; so do --help and -h
 
 --version and -V write the version.
-Exit status: 0 done; 1 a fault, told on standard error, or a trace that breaks
-a law; 2 no command line.
+Exit status: 0 done; 1 a fault, or a trace that breaks a law; 2 no command line.
 Example: echo events | automount_cli world
 "
 }
@@ -131,14 +130,15 @@ of these is answered by its fault, and nothing has changed.
   ?world, ?world N   the world as it is, or the mounts of one namespace
   ?next JOB          what a job does next
   ?waiting W         the token on which a walker waits
+  ?kind NS PATH      how a mount takes part in propagation
   ?lawful            whether all that was observed is lawful
   !reset             another head begins
 
 Options:
   -h, --help  write this
 
-Exit status: 0 the input came to its end; 1 a fault of a stream, told on standard
-error with its line.
+Exit status: 0 the input came to its end; 1 a fault of a stream, told on
+standard error with its line.
 Example: echo '!reset' | automount_cli serve
 "
 }
