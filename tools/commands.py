@@ -492,7 +492,8 @@ def refuses_each(program, refuse, words, given, is_well):
 
 # A session, each of whose allocations is refused.
 SESSION = (b"master", b"/auto m", b"end", b"map m", b"home srv:/home", b"end", b"events", b"attach /auto", b"walk 7 0 /auto/home 5 room",
-           b"?world", b"deliver 1", b"act 1 ok", b"act 1 ok", b"?trace", b"nscopy 0", b"?world 1", b"!reset", b"events", b"mount 0 /a")
+           b"?world", b"?waiting 7", b"deliver 1", b"?next 1", b"act 1 ok", b"!save", b"act 1 ok", b"!back", b"act 1 ok", b"?trace",
+           b"nscopy 0", b"?world 1", b"?kind 1 /auto", b"?lawful", b"!reset", b"events", b"mount 0 /a")
 
 
 def served(program, lines):
@@ -523,9 +524,9 @@ def is_served_well(program):
             return False
         if SESSION[at] == b"events":
             # Another head begins.
-            return all(it == b"" or b"NoWorld" in it for it in found[at + 1:SESSION.index(b"!reset")])
-        # An event that is refused was taken, as a line that is skipped is; a line with a fault wasn't.
-        instead = (b"#",) if found[at] == b"err 10\n" else ()
+            return all(it == b"" or b"NoWorld" in it or b"NotSaved" in it for it in found[at + 1:SESSION.index(b"!reset")])
+        # An event that is refused was taken, as a line that is skipped is; a line with a fault, or a question, wasn't.
+        instead = (b"#",) if found[at] == b"err 10\n" and SESSION[at][:1] != b"?" else ()
         others = served(program, SESSION[:at] + instead + SESSION[at + 1:])
         return found[:at] + found[at + 1:] == others[:at] + others[at + len(instead):]
 

@@ -174,7 +174,8 @@ HOSTILE = (
     b"walk", b"walk 7", b"walk 7 0 auto 5 room", b"act 1 maybe", b"resume 4294967296 1 room", b"\0", b"walk 7 0 /a\0b 1 room",
     b"\xff\xfe", b"attach", b"events", b"master", b"end", b"map x", b"?", b"!", b"?world x", b"?world 01",
     b"?world 4294967296", b"?world 0 0", b"?next", b"?next -1", b"?waiting", b"?waiting 1 2", b"?trace 1", b"?lawful x",
-    b"?World", b"!save", b"!back", b"!reset x", b"?kind 0 /", b"?world 7", b"#" * (LONGEST + 1), b" " * (LONGEST + 1),
+    b"?World", b"!save x", b"!back 1", b"!back", b"!saved", b"!reset x", b"?kind", b"?kind 0", b"?kind 0 a", b"?kind 01 /",
+    b"?kind 0 / /", b"?world 7", b"#" * (LONGEST + 1), b" " * (LONGEST + 1),
     b"walk 7 0 /" + b"y" * LONGEST + b" 1 room", b"!reset" + b" " * LONGEST, b"x" * (3 * LONGEST + 17),
 )
 QUIET = (b"", b"   ", b"\t", b"# comment", b"#" * LONGEST, b" " * LONGEST)
@@ -210,6 +211,13 @@ TALKS = {
         (b"?trace", b"  answered 1 ready\n  released 7 token 1 ready\n"), (b"resume 7 101 room", b"at 3 /\n"),
         (b"?lawful", b"yes\n"),
     ],
+    "kinds are asked": [
+        (b"?kind 0 /", b"fault 1 NoWorld\n"), (b"?kind 0", b"fault 1 BadQuestion\n"), (b"events", b""),
+        (b"mount 0 /a", b"mount 2\n"), (b"change 0 /a shared", b"ok\n"), (b"mount 0 /a/b", b"mount 3\n"), (b"?trace", b"  mounted 3\n"),
+        (b"?kind 0 /a", b"kind shared\n"), (b" ?kind\t0  //a/", b"kind shared\n"), (b"?kind 0 /", b"kind private\n"),
+        (b"?kind 1 /", b"err 1\n"), (b"?kind 0 /c", b"err 5\n"), (b"?kind 0 c", b"fault 5 BadQuestion\n"), (b"?trace", b"  mounted 3\n"),
+        (b"kind 0 /a", b"kind shared\n"), (b"?trace", b""), (b"x", b"fault 6:1 BadEvent expected the word of an event\n"),
+    ],
     "an unmount is next": [
         *((it, b"") for it in HEAD.splitlines()),
         (b"attach /auto", b"fs 2 attach 1 mount 2\n"), (b"walk 7 0 /auto/home 100 room", b"wait 1\n"),
@@ -241,6 +249,16 @@ TALKS = {
         (b"map m", b""), (b"events", b""), (b"!reset", b""), (b"?trace", b""), (b"end ", b""), (b"master", b""), (b"end", b""),
         (b"?trace", b"fault 8 NoWorld\n"), (b"?world", b"fault 8 NoWorld\n"), (b"!reset", b""), (b"?lawful", b"fault 1 NoWorld\n"),
         (b"?lawful x", b"fault 1 BadQuestion\n"), (b"events", b""), (b"?lawful", b"yes\n"),
+    ],
+    "a world is saved, and comes back": [
+        *((it, b"") for it in HEAD.splitlines()),
+        (b"attach /auto", b"fs 2 attach 1 mount 2\n"), (b"walk 7 0 /auto/home 100 room", b"wait 1\n"), (b"!back", b"fault 10 NotSaved\n"),
+        (b"!save", b""), (b"deliver 1", b"job 1\n"), (b"x", b"fault 11:1 BadEvent expected the word of an event\n"),
+        (b"!back", b""), (b"x", b"fault 10:1 BadEvent expected the word of an event\n"), (b"?next 1", b"none\n"),
+        (b"?waiting 7", b"waiting 1\n"), (b"deliver 1", b"job 1\n"), (b"act 1 ok", b"did mkdir\n"), (b" !back ", b""),
+        (b"!save\t", b""), (b"admincat 2", b"ok\n"), (b"?waiting 7", b"no\n"), (b"!back", b""), (b"?waiting 7", b"waiting 1\n"),
+        (b"!reset", b""), (b"!save", b"fault 1 NoWorld\n"), (b"map m", b""), (b"!back", b""), (b"!save", b""), (b"end", b""),
+        (b"!back", b""), (b"?waiting 7", b"waiting 1\n"), (b"deliver 1", b"job 1\n"), (b"?lawful", b"yes\n"),
     ],
     "a session is reset": [
         (b"events", b""), (b"mount 0 /a", b"mount 2\n"), (b"!reset", b""), (b"mount 0 /b", b""), (b"!reset", b""), (b"events", b""),

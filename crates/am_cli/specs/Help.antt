@@ -95,13 +95,15 @@ serve_help =
     ++ (codes "  ?world, ?world N   the world as it is, or the mounts of one namespace\n"
     ++ (codes "  ?next JOB          what a job does next\n"
     ++ (codes "  ?waiting W         the token on which a walker waits\n"
+    ++ (codes "  ?kind NS PATH      how a mount takes part in propagation\n"
     ++ (codes "  ?lawful            whether all that was observed is lawful\n"
+    ++ (codes "  !save, !back       keeps a copy of the world, and comes back to it\n"
     ++ (codes "  !reset             another head begins\n\n"
     ++ (codes "Options:\n"
     ++ (codes "  -h, --help  write this\n\n"
     ++ (codes "Exit status: 0 the input came to its end; 1 a fault of a stream, told on\n"
     ++ (codes "standard error with its line.\n"
-    ++ codes "Example: echo '!reset' | automount_cli serve\n"))))))))))))))
+    ++ codes "Example: echo '!reset' | automount_cli serve\n")))))))))))))))
 
 -- what help says of the command `judge`
 abbrev pub judge_help : List ℕ

@@ -130,7 +130,9 @@ of these is answered by its fault, and nothing has changed.
   ?world, ?world N   the world as it is, or the mounts of one namespace
   ?next JOB          what a job does next
   ?waiting W         the token on which a walker waits
+  ?kind NS PATH      how a mount takes part in propagation
   ?lawful            whether all that was observed is lawful
+  !save, !back       keeps a copy of the world, and comes back to it
   !reset             another head begins
 
 Options:

@@ -1,6 +1,6 @@
 //! The attachments of all autofs file systems, as a table.
 
-ghost use Rattle.std.specs.Prelude.{◌≡◌, ◌<◌, ◌≤◌, ◌==◌, ◌++◌, ◌∷◌, [], map, find, Some, OnOk};
+ghost use Rattle.std.specs.Prelude.{◌≡◌, ◌<◌, ◌≤◌, ◌==◌, ◌++◌, ◌∷◌, [], map, find, Some, IfOk, OnOk};
 ghost use Rattle.std.specs.List.{All};
 ghost use Rattle.std.specs.Option.{option_map};
 ghost use Rattle.am_kernel.specs.Rising.{RiseByFs};
@@ -79,6 +79,18 @@ impl AttachmentTable {
             rows: Vec::new(alloc),
             holders: VecDeque::new(alloc),
         }
+    }
+
+    /// The same attachments once more, with no less room.
+    pub fn copy(&self, alloc: Global) -> Result<AttachmentTable, AllocError>
+        ensures rows { IfOk result (λ copy. copy.rows ≡ self.now.rows) }
+        ensures room { IfOk result (λ copy. self.now.room ≤ copy.room) }
+    {
+        let mut rows = Vec::with_capacity(alloc, self.rows.capacity())?;
+        rows.extend_from_slice(self.rows.as_slice())?;
+        let mut holders = self.holders.clone()?;
+        holders.reserve(self.holders.capacity() - self.holders.len())?;
+        Ok(AttachmentTable { rows, holders })
     }
 
     /// The rows, in order of attaching.

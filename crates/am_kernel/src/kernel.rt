@@ -6,6 +6,7 @@ ghost use Rattle.am_kernel.specs.State.{initial};
 ghost use Rattle.am_kernel.specs.CallOutcome.{moment_of};
 
 use crate::attachment_table::AttachmentTable;
+use crate::copies::{Triggered, Walked, copy_triggered, copy_walked};
 use crate::packet_queue::PacketQueue;
 use crate::row::{Attached, WalkRow};
 use crate::walks::Walks;
@@ -15,7 +16,7 @@ use am_propagate::Subtree;
 use am_state::QueuedRow;
 use am_trigger::{Failures, Triggers};
 use am_wait::Waits;
-use std::alloc::Global;
+use std::alloc::{AllocError, Global};
 use std::marker::Model;
 
 /// The mounts of all namespaces, the autofs file systems with their triggers, tokens and pipes,
@@ -74,6 +75,46 @@ impl Kernel {
             last_attach: 0,
             latest: Seconds(0),
             negative: limits.negative,
+        })
+    }
+
+    /// The same kernel once more.
+    pub fn copy(&self, alloc: Global) -> Result<Kernel, AllocError>
+        ensures { IfOk result (λ copy. copy ≡ self.now) }
+    {
+        let first = copy_triggered(
+            alloc,
+            &self.subtree,
+            &self.triggers,
+            &self.failures,
+            &self.waits,
+        )?;
+        let second = copy_walked(alloc, &self.uses, &self.attached, &self.walks, &self.queue)?;
+        let Triggered {
+            subtree,
+            triggers,
+            failures,
+            waits,
+        } = first;
+        let Walked {
+            uses,
+            attached,
+            walks,
+            queue,
+        } = second;
+        Ok(Kernel {
+            subtree,
+            triggers,
+            failures,
+            waits,
+            uses,
+            attached,
+            walks,
+            queue,
+            last_fs: self.last_fs,
+            last_attach: self.last_attach,
+            latest: self.latest,
+            negative: self.negative,
         })
     }
 

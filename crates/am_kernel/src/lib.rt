@@ -7,6 +7,7 @@ mod attachment_table;
 mod attachments;
 mod attempt;
 mod catatonic;
+mod copies;
 mod daemon_mounts;
 mod directories;
 mod expire;

@@ -1,6 +1,6 @@
 //! The packets in the pipes, as a queue.
 
-ghost use Rattle.std.specs.Prelude.{◌≡◌, ◌<◌, ◌≤◌, ◌==◌, ◌++◌, ◌∷◌, [], not, filter, OnOk};
+ghost use Rattle.std.specs.Prelude.{◌≡◌, ◌<◌, ◌≤◌, ◌==◌, ◌++◌, ◌∷◌, [], not, filter, IfOk, OnOk};
 ghost use Rattle.std.specs.List.{All};
 ghost use Rattle.am_kernel.specs.Rising.{RiseByToken};
 ghost use Rattle.am_kernel.specs.Requests.{queued_of};
@@ -66,6 +66,16 @@ impl PacketQueue {
         PacketQueue {
             rows: Rows::new(alloc),
         }
+    }
+
+    /// The same packets once more, with no less room.
+    pub fn copy(&self, alloc: Global) -> Result<PacketQueue, AllocError>
+        ensures rows { IfOk result (λ copy. copy.rows ≡ self.now.rows) }
+        ensures room { IfOk result (λ copy. self.now.room ≤ copy.room) }
+    {
+        Ok(PacketQueue {
+            rows: self.rows.copy(alloc)?,
+        })
     }
 
     /// The packets, in order.

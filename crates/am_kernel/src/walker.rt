@@ -21,7 +21,7 @@ const MAX_ATTEMPTS: u32 = 40;
 
 impl WalkRow {
     /// The same row once more.
-    fn copy(&self, alloc: Global) -> Result<WalkRow, AllocError>
+    pub(crate) fn copy(&self, alloc: Global) -> Result<WalkRow, AllocError>
         ensures { IfOk result (λ row. row ≡ self.now) }
     {
         Ok(WalkRow {

@@ -1,6 +1,6 @@
 //! The walks of those who wait.
 
-ghost use Rattle.std.specs.Prelude.{◌≡◌, ◌≤◌, ◌<◌, ◌+◌, ◌==◌, ◌∷◌, ◌++◌, [], ℕ, true, false, Some, cond, drop, length, position, is_some, OnOk, vec_len, vec_capacity};
+ghost use Rattle.std.specs.Prelude.{◌≡◌, ◌≤◌, ◌<◌, ◌+◌, ◌-◌, ◌==◌, ◌∷◌, ◌++◌, [], ℕ, true, false, Some, cond, drop, length, position, is_some, IfOk, OnOk, vec_len, vec_capacity};
 ghost use Rattle.std.specs.Option.{option_copied};
 ghost use Rattle.indexmap.specs.IndexMap.{spare};
 ghost use Rattle.am_kernel.specs.Walks.{without_walk};
@@ -204,6 +204,19 @@ fn take_row(
     }
 }
 
+/// The same rows once more, with room for so many more.
+fn copies_of(alloc: Global, rows: &[WalkRow], room: usize) -> Result<Vec<WalkRow>, AllocError>
+    ensures items { IfOk result (λ copies. copies.items ≡ rows.now) }
+    ensures room { IfOk result (λ copies. room ≤ vec_capacity copies - vec_len copies) }
+{
+    let mut copies = Vec::with_capacity(alloc, rows.len())?;
+    for row in rows {
+        copies.push(row.copy(alloc)?)?;
+    }
+    copies.reserve(room)?;
+    Ok(copies)
+}
+
 impl Walks {
     /// Nobody waits.
     pub fn new(alloc: Global) -> Walks
@@ -215,6 +228,24 @@ impl Walks {
             turns: IndexMap::new(alloc),
             next: 0,
         }
+    }
+
+    /// The same walks once more, with no less room.
+    pub fn copy(&self, alloc: Global) -> Result<Walks, AllocError>
+        ensures rows { IfOk result (λ copy. copy.rows ≡ self.now.rows) }
+        ensures room { IfOk result (λ copy. self.now.room ≤ copy.room) }
+        ensures seats { IfOk result (λ copy. self.now.seats ≤ copy.seats) }
+    {
+        let room = self.rows.capacity() - self.rows.len();
+        let rows = copies_of(alloc, live(&self.rows, self.over), room)?;
+        let mut turns = self.turns.clone()?;
+        turns.reserve(self.turns.capacity() - self.turns.len())?;
+        Ok(Walks {
+            rows,
+            over: 0,
+            turns,
+            next: self.next,
+        })
     }
 
     /// The walks, in order of waiting.

@@ -1,3 +1,4 @@
+mod FewLemmas
 mod HeadLemmas
 mod ReadingLemmas
 mod ReplyLemmas

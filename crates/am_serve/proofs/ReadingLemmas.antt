@@ -12,8 +12,8 @@ use Rattle.am_script.proofs.ReadingLemmas.{consumes_more}
 use Rattle.am_script.proofs.Writes.{appends_more, appends_none}
 use Rattle.am_serve.specs.declared.held.Held.{Held}
 use Rattle.am_serve.specs.declared.reading.Reading.{Reading}
-use Rattle.am_serve.specs.declared.stands.Serving.{Serving}
-use Rattle.am_serve.specs.Hearing.{fresh}
+use Rattle.am_serve.specs.declared.service.Service.{Service}
+use Rattle.am_serve.specs.Keeping.{unserved}
 use Rattle.am_serve.specs.Reading.{AnswersHeld, EndsServed, IsHeld, LosesAmong, LosesHeld, LosesLast, ReadingStands, TakesBytes}
 use Rattle.am_serve.specs.Replies.{AreReplies}
 use Rattle.am_serve.specs.Served.{AllReplied, LosesReply, ServesInput, StopsServing, before_last, ended_lines, sent_lines, unless_empty, with_last}
@@ -71,7 +71,7 @@ lines_past reading text end rest start held h whole =
     ∙ ap (λ (t : List (List ℕ)). h.front ++ t) (line_ends (h.begun ++ end) rest (All-append (λ (b : ℕ). is_line_feed b ≡ false) h.begun end h.cut whole))
 
 -- nothing is read yet
-pub none_read : (reading : Reading) (start : Option (List ℕ)) → reading.serving ≡ fresh → reading.number ≡ 0 → IsHeld reading.held [] → ReadingStands reading [] start start
+pub none_read : (reading : Reading) (start : Option (List ℕ)) → reading.service ≡ unserved → reading.number ≡ 0 → IsHeld reading.held [] → ReadingStands reading [] start start
 none_read reading start new zero held = record {
   front = [];
   whole = [];
@@ -108,7 +108,7 @@ line_answered now next kept text end start held holds h whole hold answers =
       keeps = answers.clear;
       number = answers.number ∙ ap (λ (n : ℕ). n + 1) h.number ∙ sym (length_push h.front line);
       replies = h.replies ++ sends.text;
-      replied = replies_more fresh now.serving next.serving h.front line h.replies sends.text h.replied sends.reply;
+      replied = replies_more unserved now.service next.service h.front line h.replies sends.text h.replied sends.reply;
       written = appends_more start held holds h.replies sends.text h.written sends.written;
     }
 
@@ -130,7 +130,7 @@ bytes_held now kept text bytes start held h whole hold = record {
 
 -- the lines that were read whole are answered
 abbrev all_replied : (now : Reading) (text : List ℕ) (start held : Option (List ℕ)) (h : ReadingStands now text start held) → AllReplied h.front start held
-all_replied now text start held h = record { last = now.serving; text = h.replies; replies = h.replied; written = h.written }
+all_replied now text start held h = record { last = now.service; text = h.replies; replies = h.replied; written = h.written }
 
 -- the reply to a line that ends is lost
 line_lost : (now : Reading) (kept : Held) (text end rest : List ℕ) (start held holds : Option (List ℕ)) (fault : ScriptFault) → ReadingStands now text start held → EndsNoLine end → Holds now.held kept end → LosesHeld (record now { held = kept }) held holds fault → LosesReply (text ++ (end ++ 10 ∷ rest)) start holds fault
@@ -200,9 +200,9 @@ pub ends_last : (reading next : Reading) (held holds : Option (List ℕ)) → ((
 ends_last reading next held holds some answers text start h =
     let sends = answers.sends h.begun h.keeps in
     subst (λ (t : List (List ℕ)). AllReplied t start holds) (sym (sent_last reading text start held h (some h.begun h.keeps))) (record {
-      last = next.serving;
+      last = next.service;
       text = h.replies ++ sends.text;
-      replies = replies_more fresh reading.serving next.serving h.front h.begun h.replies sends.text h.replied sends.reply;
+      replies = replies_more unserved reading.service next.service h.front h.begun h.replies sends.text h.replied sends.reply;
       written = appends_more start held holds h.replies sends.text h.written sends.written;
     })
 

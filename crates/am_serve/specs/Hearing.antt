@@ -2,19 +2,22 @@
 use Rattle.std.specs.Prelude.{◌≡◌, ◌⊎◌, ℕ, ◌+◌, Bool, true, false, List, ◌++◌, Option, None, Some, Result, Ok, Err}
 use Rattle.am_diagnosis.specs.Scripts.{long_slip}
 use Rattle.am_diagnosis.specs.declared.expected.Slip.{Slip}
+use Rattle.am_group.specs.{MountState}
+use Rattle.am_names.specs.{Errno}
 use Rattle.am_script.specs.{ScriptFault, ScriptFaultKind, fault_at}
 use Rattle.am_script.specs.declared.fault.ScriptFaultKind.TheVariants.{LongLine, NoMemory}
-use Rattle.am_session.specs.{HasSlip, IsBegun, NotBegun, Session, Takes}
+use Rattle.am_session.specs.{HasSlip, IsBegun, IsKind, NotBegun, Session, Takes}
+use Rattle.am_world.specs.Capacity.{state_of}
 use Rattle.am_serve.specs.declared.complaints.Complaint.{Complaint}
 use Rattle.am_serve.specs.declared.complaints.Complaint.TheVariants.{OfScript, NoWorld, BadQuestion}
 use Rattle.am_serve.specs.declared.request.Question.{Question}
 use Rattle.am_serve.specs.declared.request.Request.{Request}
-use Rattle.am_serve.specs.declared.request.Request.TheVariants.{Long, Reset, Asks, Unknown, Plain}
+use Rattle.am_serve.specs.declared.request.Request.TheVariants.{Long, Reset, Asks, AsksKind, Unknown, Plain}
 use Rattle.am_serve.specs.declared.stands.Serving.{Serving}
 use Rattle.am_serve.specs.declared.stands.Stand.{Stand}
 use Rattle.am_serve.specs.declared.stands.Stand.TheVariants.{Gathering, Playing}
 use Rattle.am_serve.specs.declared.telling.Telling.{Telling}
-use Rattle.am_serve.specs.declared.telling.Telling.TheVariants.{Nothing, Answer, Asked, Fault}
+use Rattle.am_serve.specs.declared.telling.Telling.TheVariants.{Nothing, Answer, Asked, Kind, Fault}
 use Rattle.am_serve.specs.Heads.{Gathered, ends_head, nothing_gathered, with_line}
 use Rattle.am_serve.specs.Requests.{request_of}
 
@@ -105,6 +108,12 @@ abbrev pub question_told : Stand → ℕ → Question → Telling
 question_told (Gathering head) lines question = next_fault lines NoWorld None
 question_told (Playing session) lines question = Asked question
 
+-- the world is asked what it would answer to an event `kind`
+abbrev pub KindTold : Stand → ℕ → ℕ → List (List ℕ) → Telling → Type 0
+KindTold (Gathering head) lines ns path told = told ≡ next_fault lines NoWorld None
+KindTold (Playing session) lines ns path told =
+    (came : Result MountState Errno) × IsKind (state_of session.world) ns path came × (told ≡ Kind came)
+
 -- a line that is this leaves the session so, and this is told of it
 abbrev pub Heard : Request → Serving → List ℕ → Serving → Telling → Type 0
 Heard Long old line new told =
@@ -112,6 +121,7 @@ Heard Long old line new told =
 Heard Reset old line new told = (new ≡ fresh) × (told ≡ Nothing)
 Heard (Asks question) old line new told =
     (new ≡ old) × (told ≡ question_told old.stand old.lines question)
+Heard (AsksKind ns path) old line new told = (new ≡ old) × KindTold old.stand old.lines ns path told
 Heard Unknown old line new told = (new ≡ old) × (told ≡ next_fault old.lines BadQuestion None)
 Heard Plain old line new told = HeardLine old.stand old.lines line new told
 

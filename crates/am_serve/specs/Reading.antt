@@ -5,8 +5,8 @@ use Rattle.std.specs.Io.KnownBytes.{Appends}
 use Rattle.am_script.specs.{EndsNoLine, ScriptFault, is_long, lines_of}
 use Rattle.am_serve.specs.declared.held.Held.{Held}
 use Rattle.am_serve.specs.declared.reading.Reading.{Reading}
-use Rattle.am_serve.specs.declared.stands.Serving.{Serving}
-use Rattle.am_serve.specs.Hearing.{fresh}
+use Rattle.am_serve.specs.declared.service.Service.{Service}
+use Rattle.am_serve.specs.Keeping.{unserved}
 use Rattle.am_serve.specs.Replies.{AreReplies, Loses, Sends}
 use Rattle.am_serve.specs.Served.{AllReplied, LosesReply, sent_lines}
 
@@ -29,14 +29,14 @@ pub record ReadingStands (reading : Reading) (text : List ℕ) (start now : Opti
   pub keeps : IsHeld reading.held begun
   pub number : reading.number ≡ length front
   pub replies : List ℕ
-  pub replied : AreReplies fresh front reading.serving replies
+  pub replied : AreReplies unserved front reading.service replies
   pub written : Appends start now replies
 
 -- ---- one line more
 
 -- the reply to the line that is held is written, and another line begins
 pub record AnswersHeld (old new : Reading) (held holds : Option (List ℕ)) : Type 0 where
-  pub sends : (line : List ℕ) → IsHeld old.held line → Sends old.serving line new.serving held holds
+  pub sends : (line : List ℕ) → IsHeld old.held line → Sends old.service line new.service held holds
   pub clear : IsHeld new.held []
   pub number : new.number ≡ old.number + 1
 
@@ -44,7 +44,7 @@ pub record AnswersHeld (old new : Reading) (held holds : Option (List ℕ)) : Ty
 abbrev pub LosesHeld : Reading → Option (List ℕ) → Option (List ℕ) → ScriptFault → Type 0
 LosesHeld old held holds fault =
     (line : List ℕ) → IsHeld old.held line
-    → (new : Serving) × Loses old.serving line new (old.number + 1) held holds fault
+    → (new : Service) × Loses old.service line new (old.number + 1) held holds fault
 
 -- ---- bytes
 

@@ -1,12 +1,13 @@
 -- What a line is to a session: own choice (docs/FORMATS.md, "Sessions").
-use Rattle.std.specs.Prelude.{ℕ, Bool, ◌||◌, List, [], ◌∷◌, codes, bytes_eq, Option, None, Some, option_map, if◌then◌else◌}
+use Rattle.std.specs.Prelude.{ℕ, Bool, ◌||◌, List, [], ◌∷◌, codes, bytes_eq, Option, None, Some, Result, Ok, Err, option_map, result_ok, if◌then◌else◌}
 use Rattle.am_lines.specs.{begins_with, words_of}
 use Rattle.am_script.specs.{is_long}
+use Rattle.am_names.specs.Path.{path_read}
 use Rattle.am_script.specs.Numbers.{u32_read}
 use Rattle.am_serve.specs.declared.request.Question.{Question}
 use Rattle.am_serve.specs.declared.request.Question.TheVariants.{Trace, World, Next, Waiting, Lawful}
 use Rattle.am_serve.specs.declared.request.Request.{Request}
-use Rattle.am_serve.specs.declared.request.Request.TheVariants.{Long, Reset, Asks, Unknown, Plain}
+use Rattle.am_serve.specs.declared.request.Request.TheVariants.{Long, Reset, Asks, AsksKind, Unknown, Plain}
 
 -- a question that has no words but its first
 abbrev pub alone : Question → List (List ℕ) → Option Question
@@ -47,10 +48,21 @@ abbrev pub asks_by : Option Question → Request
 asks_by (Some question) = Asks question
 asks_by None = Unknown
 
+-- the mount of which `?kind` asks, by its namespace and its path
+abbrev pub kind_of_mount : Option ℕ → Option (List (List ℕ)) → Request
+kind_of_mount (Some ns) (Some path) = AsksKind ns path
+kind_of_mount ns path = Unknown
+
+-- `?kind NS PATH`
+abbrev pub kind_by : List (List ℕ) → Request
+kind_by (ns ∷ path ∷ []) = kind_of_mount (u32_read ns) (result_ok (path_read path))
+kind_by words = Unknown
+
 -- what a line is, by its first word and the others
 abbrev pub request_by : List ℕ → List (List ℕ) → Request
 request_by word words =
     if bytes_eq word (codes "!reset") then reset_by words
+    else if bytes_eq word (codes "?kind") then kind_by words
     else if is_marked word then asks_by (question_by word words)
     else Plain
 

@@ -5,8 +5,8 @@ use Rattle.std.specs.Io.KnownBytes.{Appends, Consumes, IsAtEnd}
 use Rattle.am_mountinfo.specs.{IsCut}
 use Rattle.am_script.specs.{ScriptFault, fault_at, lines_of}
 use Rattle.am_script.specs.declared.fault.ScriptFaultKind.TheVariants.{ReadFailed}
-use Rattle.am_serve.specs.declared.stands.Serving.{Serving}
-use Rattle.am_serve.specs.Hearing.{fresh}
+use Rattle.am_serve.specs.declared.service.Service.{Service}
+use Rattle.am_serve.specs.Keeping.{unserved}
 use Rattle.am_serve.specs.Replies.{AreReplies, IsReply}
 
 -- all of these but the last
@@ -36,9 +36,9 @@ sent_lines text = with_last (lines_of text)
 
 -- the replies to these lines, of a session of which no line was taken before, are written
 pub record AllReplied (lines : List (List ℕ)) (old new : Option (List ℕ)) : Type 0 where
-  pub last : Serving
+  pub last : Service
   pub text : List ℕ
-  pub replies : AreReplies fresh lines last text
+  pub replies : AreReplies unserved lines last text
   pub written : Appends old new text
 
 -- the input was read to its end, and the replies to its lines are written
@@ -65,7 +65,7 @@ pub record LosesReply (text : List ℕ) (old new : Option (List ℕ)) (fault : S
   pub parts : sent_lines text ≡ lines ++ line ∷ others
   pub mid : Option (List ℕ)
   pub replied : AllReplied lines old mid
-  pub last : Serving
+  pub last : Service
   pub reply : List ℕ
   pub is : IsReply replied.last line last reply
   pub cut : IsCut (length lines + 1) reply mid new fault

@@ -10,7 +10,7 @@ use Rattle.am_machine.specs.{Answer}
 use Rattle.am_mountinfo.specs.{is_nowhere}
 use Rattle.am_mountinfo.specs.WorldText.{IsText}
 use Rattle.am_script.specs.{answer_line}
-use Rattle.am_session.specs.{Session, awaited, seen_last}
+use Rattle.am_session.specs.{Session, awaited, kind_answer, seen_last}
 use Rattle.am_views.specs.{obs_lines}
 use Rattle.am_wait.specs.{wait_of}
 use Rattle.am_world.specs.Capacity.{state_of}
@@ -100,6 +100,7 @@ abbrev pub plain_text : Telling → Serving → List ℕ
 plain_text tells.Nothing serving = []
 plain_text tells.Answer serving = answer_in serving.stand
 plain_text (tells.Asked question) serving = asked_text question serving.stand
+plain_text (tells.Kind came) serving = answer_line (kind_answer came)
 plain_text (tells.Fault line complaint slip) serving = fault_text line (complaint_word complaint) slip
 
 -- the text is what is told

@@ -7,7 +7,7 @@ use Rattle.am_master.specs.declared.fault.MasterFaultKind.TheVariants as of_mast
 use Rattle.am_script.specs.{ScriptFaultKind}
 use Rattle.am_script.specs.declared.fault.ScriptFaultKind.TheVariants as of_script
 use Rattle.am_serve.specs.declared.complaints.Complaint.{Complaint}
-use Rattle.am_serve.specs.declared.complaints.Complaint.TheVariants.{OfScript, NoWorld, BadQuestion}
+use Rattle.am_serve.specs.declared.complaints.Complaint.TheVariants.{OfScript, NoWorld, NotSaved, BadQuestion}
 
 -- the word for a fault of a map section
 abbrev pub map_word : MapFaultKind → List ℕ
@@ -44,4 +44,5 @@ kind_word of_script.NoSuchNamespace = codes "NoSuchNamespace"
 abbrev pub complaint_word : Complaint → List ℕ
 complaint_word (OfScript kind) = kind_word kind
 complaint_word NoWorld = codes "NoWorld"
+complaint_word NotSaved = codes "NotSaved"
 complaint_word BadQuestion = codes "BadQuestion"

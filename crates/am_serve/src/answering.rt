@@ -1,11 +1,13 @@
 //! The reply to a line.
 
-ghost use Rattle.std.specs.Prelude.{◌≡◌, ◌+◌, ◌<◌, ◌≤◌, ◌^◌, List, ℕ, true, IfErr, OnOk};
+ghost use Rattle.std.specs.Prelude.{◌≡◌, ◌+◌, ◌-◌, ◌<◌, ◌^◌, List, ℕ, true, IfErr, OnOk};
 ghost use Rattle.am_script.specs.{is_long};
+ghost use Rattle.am_serve.specs.Keeping.{AreFew};
 ghost use Rattle.am_serve.specs.Replies.{Loses, Sends};
 
-use crate::hear::{hear, hear_long};
-use crate::stands::Serving;
+use crate::hear::hear_long;
+use crate::keeping::attend;
+use crate::service::Service;
 use crate::tell::tell;
 use am_script::ScriptFault;
 use std::alloc::Global;
@@ -15,35 +17,35 @@ use std::io::Write;
 /// whole is told at this number. The line of an event takes no memory beside what the event takes.
 pub fn reply<W: Write>(
     alloc: Global,
-    serving: &mut Serving,
+    service: &mut Service,
     number: u64,
     line: &[u8],
     writer: &mut W,
 ) -> Result<(), ScriptFault>
-    requires { serving.old.lines + 1 < 2 ^ 62 }
-    ensures ok { OnOk result (Sends serving.old line.now serving.new (W.contents writer.old)
+    requires { AreFew service.old (2 ^ 62 - 2) }
+    ensures ok { OnOk result (Sends service.old line.now service.new (W.contents writer.old)
         (W.contents writer.new)) }
-    ensures err { IfErr result (Loses serving.old line.now serving.new number
+    ensures err { IfErr result (Loses service.old line.now service.new number
         (W.contents writer.old) (W.contents writer.new)) }
-    ensures counted { serving.new.lines ≤ serving.old.lines + 1 }
+    ensures few { (most : ℕ) → AreFew service.old most → AreFew service.new (most + 1) }
 {
-    let telling = hear(alloc, serving, line);
-    tell(alloc, serving, telling, number, writer)
+    let telling = attend(alloc, service, line);
+    tell(alloc, &service.serving, telling, number, writer)
 }
 
 /// The same for any line that is too long.
 pub(crate) fn reply_long<W: Write>(
     alloc: Global,
-    serving: &Serving,
+    service: &Service,
     number: u64,
     writer: &mut W,
 ) -> Result<(), ScriptFault>
-    requires { serving.now.lines < 2 ^ 62 }
+    requires { service.now.serving.lines < 2 ^ 62 }
     ensures ok { OnOk result ((line : List ℕ) → is_long line ≡ true
-        → Sends serving.now line serving.now (W.contents writer.old) (W.contents writer.new)) }
+        → Sends service.now line service.now (W.contents writer.old) (W.contents writer.new)) }
     ensures err { IfErr result (λ fault. (line : List ℕ) → is_long line ≡ true
-        → Loses serving.now line serving.now number (W.contents writer.old) (W.contents writer.new) fault) }
+        → Loses service.now line service.now number (W.contents writer.old) (W.contents writer.new) fault) }
 {
-    let telling = hear_long(serving);
-    tell(alloc, serving, telling, number, writer)
+    let telling = hear_long(&service.serving);
+    tell(alloc, &service.serving, telling, number, writer)
 }

@@ -14,6 +14,8 @@ pub enum Complaint {
     OfScript { kind: ScriptFaultKind },
     /// There is no world that could be asked.
     NoWorld,
+    /// No world is saved that could be brought back.
+    NotSaved,
     /// It begins with `?` or `!`, and is no question and no command.
     BadQuestion,
 }
@@ -26,6 +28,7 @@ impl Complaint {
         match self {
             Complaint::OfScript { kind } => kind_word(kind),
             Complaint::NoWorld => "NoWorld",
+            Complaint::NotSaved => "NotSaved",
             Complaint::BadQuestion => "BadQuestion",
         }
     }

@@ -4,7 +4,7 @@ ghost use Rattle.std.specs.Prelude.{◌≡◌, ◌+◌, ◌<◌, ◌≤◌, ◌^
 ghost use Rattle.am_script.specs.{fault_at, is_long};
 ghost use Rattle.am_script.specs.declared.fault.ScriptFaultKind.TheVariants.{NoMemory};
 ghost use Rattle.am_session.specs.{IsBegun, Session};
-ghost use Rattle.am_serve.specs.Hearing.{FindsNoEvent, Hears, HeardInHead, HeardLine, PlaysLine, fresh, next_fault, question_told};
+ghost use Rattle.am_serve.specs.Hearing.{FindsNoEvent, Hears, HeardInHead, HeardLine, KindTold, PlaysLine, fresh, next_fault, question_told};
 ghost use Rattle.am_serve.specs.Openings.{Follows, HeardIfHead, IsNoOpening};
 ghost use Rattle.am_serve.specs.declared.complaints.Complaint.TheVariants.{OfScript};
 ghost use Rattle.am_serve.specs.declared.stands.Stand.TheVariants.{Gathering, Playing};
@@ -16,13 +16,14 @@ use crate::request::{Question, Request, request_of};
 use crate::stands::{Serving, Stand};
 use crate::telling::Telling;
 use am_diagnosis::{Expected, Slip};
+use am_names::{AbsPath, NsId};
 use am_script::{ScriptFault, ScriptFaultKind};
-use am_session::{Session, begin, slip_of, take_line};
+use am_session::{Session, begin, kind_at, slip_of, take_line};
 use std::alloc::Global;
 use std::mem;
 
 /// A fault of the line behind so many.
-fn next_fault(lines: u64, complaint: Complaint, slip: Option<Slip>) -> Telling
+pub(crate) fn next_fault(lines: u64, complaint: Complaint, slip: Option<Slip>) -> Telling
     requires { lines < 2 ^ 62 }
     ensures { result ≡ next_fault lines complaint slip }
 {
@@ -33,7 +34,7 @@ fn next_fault(lines: u64, complaint: Complaint, slip: Option<Slip>) -> Telling
     }
 }
 
-fn no_room(lines: u64) -> Telling
+pub(crate) fn no_room(lines: u64) -> Telling
     requires { lines < 2 ^ 62 }
     ensures { result ≡ next_fault lines (OfScript NoMemory) None }
 {
@@ -70,6 +71,18 @@ fn question_told(stand: &Stand, lines: u64, question: Question) -> Telling
     match stand {
         Stand::Gathering { .. } => next_fault(lines, Complaint::NoWorld, None),
         Stand::Playing { .. } => Telling::Asked { question },
+    }
+}
+
+fn kind_told(alloc: Global, stand: &Stand, lines: u64, ns: NsId, path: &AbsPath<'_>) -> Telling
+    requires { lines < 2 ^ 62 }
+    ensures { KindTold stand.now lines ns path.now result }
+{
+    match stand {
+        Stand::Gathering { .. } => next_fault(lines, Complaint::NoWorld, None),
+        Stand::Playing { session } => Telling::Kind {
+            came: kind_at(alloc, session, ns, path),
+        },
     }
 }
 
@@ -241,6 +254,9 @@ pub(crate) fn hear(alloc: Global, serving: &mut Serving, line: &[u8]) -> Telling
         Request::Long => hear_long(serving),
         Request::Reset => reset(alloc, serving),
         Request::Asks { question } => question_told(&serving.stand, serving.lines, question),
+        Request::AsksKind { ns, path } => {
+            kind_told(alloc, &serving.stand, serving.lines, ns, &path)
+        }
         Request::Unknown => next_fault(serving.lines, Complaint::BadQuestion, None),
         Request::Plain => take(alloc, &mut serving.stand, &mut serving.lines, line),
     }

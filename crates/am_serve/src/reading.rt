@@ -1,16 +1,17 @@
 //! A session of which lines are read in pieces.
 
 ghost use Rattle.std.specs.Io.KnownBytes.{Keeps, Consumes, IsAtEnd};
-ghost use Rattle.std.specs.Prelude.{◌≡◌, ◌+◌, ◌<◌, ◌≤◌, ◌^◌, [], List, ℕ, Option, length, take, IfErr, IfNone, IfSome, OnOk};
+ghost use Rattle.std.specs.Prelude.{◌≡◌, ◌+◌, ◌-◌, ◌<◌, ◌≤◌, ◌^◌, [], List, ℕ, Option, length, take, IfErr, IfNone, IfSome, OnOk};
 ghost use Rattle.am_script.specs.{EndsNoLine, IsCut, fault_at};
 ghost use Rattle.am_script.specs.declared.fault.ScriptFaultKind.TheVariants.{ReadFailed};
+ghost use Rattle.am_serve.specs.Keeping.{AreFew};
 ghost use Rattle.am_serve.specs.Replies.{Loses, Sends};
 ghost use Rattle.am_serve.specs.Reading.{AnswersHeld, EndsServed, IsHeld, LosesAmong, LosesHeld, LosesLast, ReadingStands, TakesBytes};
 ghost use Rattle.am_serve.specs.Served.{ServesInput, StopsServing};
 
 use crate::answering::{reply, reply_long};
 use crate::held::Held;
-use crate::stands::Serving;
+use crate::service::Service;
 use am_lines::line_feed_place;
 use am_script::{ScriptFault, ScriptFaultKind};
 use std::alloc::Global;
@@ -50,28 +51,28 @@ fn split_end(text: &[u8]) -> Option<(&[u8], &[u8])>
 /// Answers the line that is held.
 fn reply_held<W: Write>(
     alloc: Global,
-    serving: &mut Serving,
+    service: &mut Service,
     held: &Held,
     number: u64,
     writer: &mut W,
 ) -> Result<(), ScriptFault>
-    requires { serving.old.lines + 1 < 2 ^ 62 }
+    requires { AreFew service.old (2 ^ 62 - 2) }
     ensures ok { OnOk result ((line : List ℕ) → IsHeld held.now line
-        → Sends serving.old line serving.new (W.contents writer.old) (W.contents writer.new)) }
+        → Sends service.old line service.new (W.contents writer.old) (W.contents writer.new)) }
     ensures err { IfErr result (λ fault. (line : List ℕ) → IsHeld held.now line
-        → Loses serving.old line serving.new number (W.contents writer.old) (W.contents writer.new) fault) }
-    ensures counted { serving.new.lines ≤ serving.old.lines + 1 }
+        → Loses service.old line service.new number (W.contents writer.old) (W.contents writer.new) fault) }
+    ensures few { (most : ℕ) → AreFew service.old most → AreFew service.new (most + 1) }
 {
     if held.is_long {
-        return reply_long(alloc, serving, number, writer);
+        return reply_long(alloc, service, number, writer);
     }
-    reply(alloc, serving, number, held.bytes.as_slice(), writer)
+    reply(alloc, service, number, held.bytes.as_slice(), writer)
 }
 
 /// A session as far as its lines were read. Those that were read whole are answered.
 #[derive(Drop)]
 pub(crate) struct Reading {
-    pub serving: Serving,
+    pub service: Service,
     pub held: Held,
     /// How many lines were answered.
     pub number: u64,
@@ -82,10 +83,10 @@ impl Reading {
     fn new(alloc: Global) -> Reading
         ensures stands { (start : Option (List ℕ)) → ReadingStands result [] start start }
         ensures number { result.number ≡ 0 }
-        ensures few { result.serving.lines ≡ 0 }
+        ensures few { AreFew result.service 0 }
     {
         Reading {
-            serving: Serving::new(alloc),
+            service: Service::new(alloc),
             held: Held::new(),
             number: 0,
         }
@@ -100,7 +101,7 @@ impl Reading {
     ) -> Result<(), ScriptFault>
         requires stands { ReadingStands self.old [] (W.contents writer.old) (W.contents writer.old) }
         requires number { self.old.number ≡ 0 }
-        requires few { self.old.serving.lines ≡ 0 }
+        requires few { AreFew self.old.service 0 }
         ensures ok { OnOk result (ServesInput (R.remaining reader.old) (R.remaining reader.new)
             (W.contents writer.old) (W.contents writer.new)) }
         ensures err { IfErr result (StopsServing (R.remaining reader.old) (R.remaining reader.new)
@@ -125,13 +126,13 @@ impl Reading {
         writer: &mut W,
     ) -> Result<(), ScriptFault>
         requires fits { self.old.number + length bytes.now < 2 ^ 61 }
-        requires few { self.old.serving.lines ≤ self.old.number }
+        requires few { AreFew self.old.service self.old.number }
         ensures ok { OnOk result (TakesBytes self.old self.new bytes.now (W.contents writer.old)
             (W.contents writer.new)) }
         ensures err { IfErr result (LosesAmong self.old bytes.now (W.contents writer.old)
             (W.contents writer.new)) }
         ensures number { OnOk result (self.new.number ≤ self.old.number + length bytes.now) }
-        ensures few { OnOk result (self.new.serving.lines ≤ self.new.number) }
+        ensures few { OnOk result (AreFew self.new.service self.new.number) }
     {
         let mut rest = bytes;
         while let Some((end, after)) = split_end(rest) {
@@ -146,17 +147,17 @@ impl Reading {
     /// Answers the line that is held, which has ended.
     fn answer<W: Write>(&mut self, alloc: Global, writer: &mut W) -> Result<(), ScriptFault>
         requires fits { self.old.number < 2 ^ 61 }
-        requires few { self.old.serving.lines ≤ self.old.number }
+        requires few { AreFew self.old.service self.old.number }
         ensures ok { OnOk result (AnswersHeld self.old self.new (W.contents writer.old)
             (W.contents writer.new)) }
         ensures err { IfErr result (LosesHeld self.old (W.contents writer.old)
             (W.contents writer.new)) }
         ensures number { OnOk result (self.new.number ≡ self.old.number + 1) }
-        ensures few { OnOk result (self.new.serving.lines ≤ self.new.number) }
+        ensures few { OnOk result (AreFew self.new.service self.new.number) }
     {
         self.number += 1;
         let number = self.number;
-        reply_held(alloc, &mut self.serving, &self.held, number, writer)?;
+        reply_held(alloc, &mut self.service, &self.held, number, writer)?;
         self.held.clear();
         Ok(())
     }
@@ -164,7 +165,7 @@ impl Reading {
     /// The reader came to its end.
     fn end<W: Write>(&mut self, alloc: Global, writer: &mut W) -> Result<(), ScriptFault>
         requires fits { self.old.number < 2 ^ 61 }
-        requires few { self.old.serving.lines ≤ self.old.number }
+        requires few { AreFew self.old.service self.old.number }
         ensures ok { OnOk result (EndsServed self.old (W.contents writer.old) (W.contents writer.new)) }
         ensures err { IfErr result (LosesLast self.old (W.contents writer.old)
             (W.contents writer.new)) }

@@ -1,15 +1,17 @@
 //! What a line is to a session.
 
-ghost use Rattle.std.specs.Prelude.{◌≡◌, option_map, Some};
+ghost use Rattle.std.specs.Prelude.{◌≡◌, option_map, result_ok, Some};
 ghost use Rattle.am_lines.specs.{words_of};
-ghost use Rattle.am_serve.specs.Requests.{alone, asks_by, is_marked, number_alone, question_by, request_by, request_in, request_of, reset_by, world_asked};
+ghost use Rattle.am_serve.specs.Requests.{alone, asks_by, is_marked, kind_by, kind_of_mount, number_alone, question_by, request_by, request_in, request_of, reset_by, world_asked};
+ghost use Rattle.am_names.specs.Path.{path_read};
 ghost use Rattle.am_script.specs.{is_long};
+ghost use Rattle.am_script.specs.Numbers.{u32_read};
 ghost use Rattle.am_serve.specs.declared.request.Question.TheVariants as asks;
 
 use crate::number::read_u32;
 use crate::word::is_word;
 use am_lines::{begins_with, next_word};
-use am_names::{JobId, NsId, WalkerId};
+use am_names::{AbsPath, JobId, NsId, WalkerId};
 
 /// A question, which changes nothing.
 #[derive(Clone, Copy)]
@@ -27,13 +29,15 @@ pub enum Question {
 }
 
 /// What a line is to a session.
-#[derive(Clone, Copy)]
-pub enum Request {
+#[derive(Drop)]
+pub enum Request<'a> {
     /// It has more than 8,192 bytes.
     Long,
     /// A new head is to begin.
     Reset,
     Asks { question: Question },
+    /// What an event `kind` would be answered.
+    AsksKind { ns: NsId, path: AbsPath<'a> },
     /// It begins as a question or a command does, and is none that there is.
     Unknown,
     /// It is a line of a script.
@@ -117,7 +121,7 @@ fn is_marked(word: &[u8]) -> bool
     begins_with(word, b'?') || begins_with(word, b'!')
 }
 
-fn reset_by(words: &[u8]) -> Request
+fn reset_by(words: &[u8]) -> Request<'_>
     ensures { result ≡ reset_by (words_of words.now) }
 {
     match next_word(words) {
@@ -126,7 +130,35 @@ fn reset_by(words: &[u8]) -> Request
     }
 }
 
-fn asks_by(question: Option<Question>) -> Request
+/// The mount of which `?kind` asks.
+fn kind_of_mount<'a>(ns: &[u8], path: &'a [u8]) -> Request<'a>
+    ensures { result ≡ kind_of_mount (u32_read ns.now) (result_ok (path_read path.now)) }
+{
+    let Some(ns) = read_u32(ns) else {
+        return Request::Unknown;
+    };
+    match AbsPath::read(path) {
+        Ok(path) => Request::AsksKind { ns: NsId(ns), path },
+        Err(_) => Request::Unknown,
+    }
+}
+
+fn kind_by(words: &[u8]) -> Request<'_>
+    ensures { result ≡ kind_by (words_of words.now) }
+{
+    let Some((ns, words)) = next_word(words) else {
+        return Request::Unknown;
+    };
+    let Some((path, words)) = next_word(words) else {
+        return Request::Unknown;
+    };
+    match next_word(words) {
+        None => kind_of_mount(ns, path),
+        Some(_) => Request::Unknown,
+    }
+}
+
+fn asks_by<'a>(question: Option<Question>) -> Request<'a>
     ensures { result ≡ asks_by question }
 {
     match question {
@@ -135,11 +167,14 @@ fn asks_by(question: Option<Question>) -> Request
     }
 }
 
-fn request_by(word: &[u8], words: &[u8]) -> Request
+fn request_by<'a>(word: &[u8], words: &'a [u8]) -> Request<'a>
     ensures { result ≡ request_by word.now (words_of words.now) }
 {
     if is_word(word, b"!reset") {
         return reset_by(words);
+    }
+    if is_word(word, b"?kind") {
+        return kind_by(words);
     }
     if is_marked(word) {
         return asks_by(question_by(word, words));
@@ -147,7 +182,7 @@ fn request_by(word: &[u8], words: &[u8]) -> Request
     Request::Plain
 }
 
-fn request_in(line: &[u8]) -> Request
+fn request_in(line: &[u8]) -> Request<'_>
     ensures { result ≡ request_in (words_of line.now) }
 {
     match next_word(line) {
@@ -156,14 +191,14 @@ fn request_in(line: &[u8]) -> Request
     }
 }
 
-fn is_long(line: &[u8]) -> bool
+pub(crate) fn is_long(line: &[u8]) -> bool
     ensures { result ≡ is_long line.now }
 {
     line.len() > 8192
 }
 
 /// What a line is, within a section of a head or not.
-pub(crate) fn request_of(within: bool, line: &[u8]) -> Request
+pub(crate) fn request_of(within: bool, line: &[u8]) -> Request<'_>
     ensures { result ≡ request_of within line.now }
 {
     if is_long(line) {

@@ -2,7 +2,8 @@
 
 ghost use Rattle.std.specs.Prelude.{◌≡◌, ◌++◌, None, Some, codes, option_copied};
 ghost use Rattle.am_diagnosis.specs.Expectations.{expected_words};
-ghost use Rattle.am_script.specs.{Puts};
+ghost use Rattle.am_script.specs.{Puts, answer_line};
+ghost use Rattle.am_session.specs.{kind_answer};
 ghost use Rattle.am_views.specs.ObsText.{obs_line, obs_lines};
 ghost use Rattle.am_serve.specs.Tellings.{answer_in, answer_text, asked_text, fault_text, next_text, plain_text, question_text, waiting_text};
 ghost use Rattle.am_serve.specs.Words.{complaint_word};
@@ -12,7 +13,8 @@ use crate::request::Question;
 use crate::stands::{Serving, Stand};
 use crate::telling::Telling;
 use am_diagnosis::{Expected, Slip};
-use am_names::Token;
+use am_group::MountState;
+use am_names::{Errno, Token};
 use am_script::answer_line::{put_answer, put_number, put_word};
 use am_script::output::Output;
 use am_session::{Session, next_act, token_awaited};
@@ -203,6 +205,18 @@ fn put_complaint<W: Write>(
     put_fault(output, line, complaint.word(), slip, writer);
 }
 
+/// Puts out the line of the answer to an event `kind`.
+fn put_kind<W: Write>(output: &mut Output, came: Result<MountState, Errno>, writer: &mut W)
+    ensures { Puts output.old output.new (answer_line (kind_answer came)) (W.contents writer.old)
+        (W.contents writer.new) }
+{
+    let answer = match came {
+        Ok(kind) => Answer::Kind { kind },
+        Err(errno) => Answer::Refused { errno },
+    };
+    put_answer(output, &answer, writer);
+}
+
 /// Puts out what is told; of a world nothing.
 pub(crate) fn put_told<W: Write>(
     output: &mut Output,
@@ -217,6 +231,7 @@ pub(crate) fn put_told<W: Write>(
         Telling::Nothing => put_word(output, b"", writer),
         Telling::Answer => put_answer_in(output, &serving.stand, writer),
         Telling::Asked { question } => put_asked(output, question, &serving.stand, writer),
+        Telling::Kind { came } => put_kind(output, came, writer),
         Telling::Fault {
             line,
             complaint,

@@ -1,9 +1,12 @@
 -- A world that is played event by event, and what each call makes of it: own choice (docs/FORMATS.md, "Sessions").
 use Rattle.std.specs.Prelude.{◌≡◌, ◌⊎◌, ◌<◌, ℕ, Bool, true, false, cond, List, [], ◌∷◌, length, drop, Option, None, Some, Result, Ok, Err}
-use Rattle.am_machine.specs.{Event, Answer, setup_of, initial_state_of}
+use Rattle.am_group.specs.{MountState}
+use Rattle.am_machine.specs.{Event, Answer, Step, setup_of, initial_state_of}
+use Rattle.am_machine.specs.declared.answer.Answer.TheVariants as answers
+use Rattle.am_machine.specs.declared.event.Event.TheVariants as events
 use Rattle.am_machine.specs.State.{State}
 use Rattle.am_mountinfo.specs.{IsWritten, NotWritten}
-use Rattle.am_names.specs.{Status, WaitRow}
+use Rattle.am_names.specs.{Errno, Status, WaitRow}
 use Rattle.am_script.specs.{ScriptFault, ScriptFaultKind, Summary, LineAnswered, NoNext, NotOpened, Numbered, Told, answer_line, fault_at, is_refused, line_read, lines_of, only_fault, script_of, without_world}
 use Rattle.am_script.specs.Script.{Script}
 use Rattle.am_script.specs.declared.fault.ScriptFaultKind.TheVariants.{BadEvent, BadSection, NoMemory, ReadFailed, WriteFailed}
@@ -118,6 +121,17 @@ awaited_by (Some status) token = None
 abbrev pub awaited : Option WaitRow → Option ℕ
 awaited None = None
 awaited (Some wait) = awaited_by wait.status wait.token
+
+-- ---- what an event would be answered
+
+-- the answer to an event `kind` of which this came
+abbrev pub kind_answer : Result MountState Errno → Answer
+kind_answer (Ok kind) = answers.Kind kind
+kind_answer (Err e) = answers.Refused e
+
+-- an event `kind` has this answer; nothing is seen of it, and nothing changes
+abbrev pub IsKind : State → ℕ → List (List ℕ) → Result MountState Errno → Type 0
+IsKind s ns path came = Step s (events.Kind ns path) (kind_answer came) [] s
 
 -- ---- a new world
 

@@ -7,11 +7,12 @@ ghost use Rattle.am_script.specs.declared.fault.ScriptFaultKind.TheVariants.{Wri
 ghost use Rattle.am_views.specs.ObsText.{obs_line, obs_lines};
 ghost use Rattle.am_wait.specs.{wait_of};
 ghost use Rattle.am_world.specs.Capacity.{state_of};
-ghost use Rattle.am_session.specs.Sessions.{HandsOn, HasEvent, IsAnswer, IsNew, IsNotKept, IsShown, IsText, Plays, Takes, awaited, event_said, no_event, one_event, seen_last};
+ghost use Rattle.am_session.specs.Sessions.{HandsOn, HasEvent, IsAnswer, IsKind, IsNew, IsNotKept, IsShown, IsText, Plays, Takes, awaited, event_said, no_event, one_event, seen_last};
 
+use am_group::MountState;
 use am_lines::cut_at_line_feed;
 use am_mountinfo::write_world;
-use am_names::{Errno, JobId, NsId, Token, WaitRow, WalkerId};
+use am_names::{AbsPath, Errno, JobId, NsId, Token, WaitRow, WalkerId};
 use am_script::answer_line::{is_refused, push_answer};
 use am_script::visit::{Input, Opened, next_event, open_script};
 use am_script::{ScriptFault, ScriptFaultKind, Summary};
@@ -310,6 +311,18 @@ pub fn next_act(session: &Session, job: JobId) -> Option<&Act>
     ensures { option_copied result ≡ next_act_of job (rows_of session.now.world.daemon) }
 {
     session.world.next_act(job)
+}
+
+/// The state of the mount to which a path leads, as an event `kind` tells it. None comes.
+pub fn kind_at(
+    alloc: Global,
+    session: &Session,
+    ns: NsId,
+    path: &AbsPath<'_>,
+) -> Result<MountState, Errno>
+    ensures { IsKind (state_of session.now.world) ns path.now result }
+{
+    session.world.kind_at(alloc, ns, path)
 }
 
 /// The token on which a walker waits that isn't acknowledged.

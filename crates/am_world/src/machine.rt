@@ -1,6 +1,6 @@
 //! The two halves of a world, and what they make of each event.
 
-ghost use Rattle.std.specs.Prelude.{◌≡◌};
+ghost use Rattle.std.specs.Prelude.{◌≡◌, IfOk};
 ghost use Rattle.am_machine.specs.{outcome_of};
 ghost use Rattle.am_world.specs.Machine.{whole_state, Yields};
 
@@ -9,7 +9,7 @@ use am_kernel::Kernel;
 use am_machine::{Answer, Event};
 use am_names::Errno;
 use am_state::Obs;
-use std::alloc::Global;
+use std::alloc::{AllocError, Global};
 
 /// The kernel's half and the daemon's, and what was observed.
 #[derive(Drop)]
@@ -19,7 +19,29 @@ pub struct Machine {
     pub trace: Vec<Obs>,
 }
 
+/// The same observations once more.
+fn copies_of(alloc: Global, trace: &[Obs]) -> Result<Vec<Obs>, AllocError>
+    ensures { IfOk result (λ copies. copies.items ≡ trace.now) }
+{
+    let mut copies = Vec::with_capacity(alloc, trace.len())?;
+    for obs in trace {
+        copies.push(obs.copy(alloc)?)?;
+    }
+    Ok(copies)
+}
+
 impl Machine {
+    /// The same halves once more, with the same observations.
+    pub fn copy(&self, alloc: Global) -> Result<Machine, AllocError>
+        ensures { IfOk result (λ copy. whole_state copy ≡ whole_state self.now) }
+    {
+        Ok(Machine {
+            kernel: self.kernel.copy(alloc)?,
+            daemon: self.daemon.copy(alloc)?,
+            trace: copies_of(alloc, self.trace.as_slice())?,
+        })
+    }
+
     /// What becomes of an event.
     pub fn handle(&mut self, alloc: Global, event: &Event) -> Result<Answer, Errno>
         ensures { Yields (outcome_of (whole_state self.old) event.now)

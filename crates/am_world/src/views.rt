@@ -1,12 +1,14 @@
 //! What a world has, lent to those who look at it.
 
-ghost use Rattle.std.specs.Prelude.{◌≡◌, length, slice_get, IfOk};
+ghost use Rattle.std.specs.Prelude.{◌≡◌, length, slice_get, IfOk, Some};
 ghost use Rattle.std.specs.Option.{option_map, option_copied};
 ghost use Rattle.am_daemon.specs.{job_plan, known_row, rows_of, job_of};
 ghost use Rattle.am_expire.specs.{mount_of_walker};
 ghost use Rattle.am_group.specs.{member_row, master_of_group};
 ghost use Rattle.am_job.specs.{record_of};
+ghost use Rattle.am_kernel.specs.{kind_at, kind_refusal};
 ghost use Rattle.am_mount.specs.{mount_row};
+ghost use Rattle.am_names.specs.{RefusedAs};
 ghost use Rattle.am_trigger.specs.{autofs_of};
 ghost use Rattle.am_wait.specs.{token_of, tokens_of, wait_of, waiters_of};
 ghost use Rattle.am_world.specs.LastGiven.{IsLast};
@@ -14,11 +16,12 @@ ghost use Rattle.am_world.specs.LastGiven.{IsLast};
 use crate::world::World;
 use am_daemon::Known;
 use am_expire::Uses;
+use am_group::MountState;
 use am_job::{Book, Job};
 use am_kernel::{Attached, WalkRow};
 use am_names::{
-    Attach, FsId, GroupId, JobId, MemberRow, MountId, MountRow, NsId, Seconds, Token, Trigger,
-    WaitRow, WalkerId,
+    AbsPath, Attach, Errno, FsId, GroupId, JobId, MemberRow, MountId, MountRow, NsId, Seconds,
+    Token, Trigger, WaitRow, WalkerId,
 };
 use am_state::{HeldRow, QueuedRow, Record};
 use am_trigger::{Autofs, Failures, Triggers};
@@ -36,6 +39,14 @@ pub struct Last {
 }
 
 impl World {
+    /// The state of the mount to which a path leads, as an event `kind` tells it.
+    pub fn kind_at(&self, alloc: Global, ns: NsId, path: &AbsPath<'_>) -> Result<MountState, Errno>
+        ensures refusal { RefusedAs (kind_refusal self.now.kernel ns path.now) result }
+        ensures ok { IfOk result (λ kind. kind_at self.now.kernel ns path.now ≡ Some kind) }
+    {
+        self.machine.kernel.kind(alloc, ns, path)
+    }
+
     /// The mounts of all namespaces, in rising order of number.
     pub fn mounts(&self) -> &[MountRow]
         ensures { result.now ≡ self.now.kernel.table.rows }

@@ -24,7 +24,7 @@ use am_master::Master;
 use am_names::{Errno, JobId, Limits, Token, WalkerId};
 use am_state::Obs;
 use am_trail::Trail;
-use std::alloc::Global;
+use std::alloc::{AllocError, Global};
 use std::marker::Model;
 use std::mem;
 
@@ -135,6 +135,17 @@ impl World {
                 trace: Vec::new(alloc),
             },
             handed: Trail::new(),
+        })
+    }
+
+    /// The same world once more, which goes on by itself.
+    pub fn copy(&self, alloc: Global) -> Result<World, AllocError>
+        ensures state { IfOk result (λ copy. state_of copy ≡ state_of self.now) }
+        ensures handed { IfOk result (λ copy. copy.handed ≡ self.now.handed) }
+    {
+        Ok(World {
+            machine: self.machine.copy(alloc)?,
+            handed: self.handed.and(&Vec::new(alloc)),
         })
     }
 

@@ -1,4 +1,5 @@
 use Rattle.std.proofs.Common.{◌≡◌, ◌≤◌, ◌+◌, ℕ, List, ◌++◌, length}
+use Rattle.am_serve.specs.Keeping.{AreFew}
 use Rattle.am_serve.proofs.ReadingLemmas.{Reaches}
 use Rattle.am_serve.proofs.reading.Reading.take_bytes.Given as goal
 
@@ -8,7 +9,7 @@ invariant-loop-end g l = record {
   parts : l.bytes ≡ done ++ l.rest;
   stands : Reaches l.fn.self l.self done (g.W.Write.contents l.fn.writer) (g.W.Write.contents l.writer);
   number : l.self.number + length l.rest ≤ l.fn.self.number + length l.bytes;
-  few : l.self.serving.lines ≤ l.self.number;
+  few : AreFew l.self.service l.self.number;
 }
 
 abbrev pub decreases-loop-end : goal.decreases-loop-end
