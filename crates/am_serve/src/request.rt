@@ -152,10 +152,10 @@ fn kind_by(words: &[u8]) -> Request<'_>
     let Some((path, words)) = next_word(words) else {
         return Request::Unknown;
     };
-    match next_word(words) {
-        None => kind_of_mount(ns, path),
-        Some(_) => Request::Unknown,
+    if let Some(_) = next_word(words) {
+        return Request::Unknown;
     }
+    kind_of_mount(ns, path)
 }
 
 fn asks_by<'a>(question: Option<Question>) -> Request<'a>
