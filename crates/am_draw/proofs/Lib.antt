@@ -6,6 +6,7 @@ pub mod DrawnSoFar
 pub mod Draws
 pub mod FailingLemmas
 pub mod LostPieces
+pub mod MountPathLemmas
 pub mod NegativeLemmas
 pub mod NewestLemmas
 pub mod NothingLemmas

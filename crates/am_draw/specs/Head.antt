@@ -14,7 +14,7 @@ height tall = 140 + 26 * tall
 
 -- how wide one is with room for so many lanes of walkers, and so many narrow ones, in pixels
 abbrev pub width : ℕ → ℕ → ℕ
-width walkers narrow = 844 + 44 * walkers + 20 * narrow
+width walkers narrow = 980 + 44 * walkers + 20 * narrow
 
 -- ---- the element that holds all others
 
@@ -80,7 +80,7 @@ token_title left = codes "<text class='h' x='" ++ decimal left ++ codes "' y='10
 abbrev pub right_columns : ℕ → ℕ → List ℕ
 right_columns far down =
     codes "<g transform='translate(" ++ decimal far
-    ++ ((codes ")'>\n<rect fill='url(#am-right)' x='852' y='118' width='460' height='" ++ decimal down)
+    ++ ((codes ")'>\n<rect fill='url(#am-right)' x='852' y='118' width='596' height='" ++ decimal down)
     ++ (codes "'/>\n" ++ right_text))
 
 -- all of it, below rows that are so high

@@ -4,11 +4,13 @@ pub mod Endings
 pub mod Errors
 pub mod Failures
 pub mod FailingBars
+pub mod Groups
 pub mod Head
 pub mod HeadNegative
 pub mod Lasting
 pub mod Look
 pub mod Marks
+pub mod MountPaths
 pub mod Parts
 pub mod Rows
 pub mod Sides
@@ -27,12 +29,13 @@ pub use Failures.{empty_lane, fresh, is_failing, kept_failing, with_empty, with_
 pub use FailingBars.{failing_bar, failing_bars_in}
 pub use Lasting.{Lasts, acted, added, behind, changed, fresh_in, lasts_of, nothing_lasts, roomed, roomed_for, seen_added, seen_behind, turned, turned_added, with_begun, with_ended, with_failing_lane}
 pub use Marks.{lane_x}
+pub use MountPaths.{between, path_to, point_of}
 pub use Parts.{is_drawn, is_past, part_of, row_y, rows_shown}
 pub use Rows.{RowSides, obs_drawn, row_text, seen_drawn, sides_of}
 pub use Sides.{sides_said}
 pub use Stretches.{bar, lane_bar, lane_bars}
 pub use Titles.{failing_name, failing_names, first_names, lane_name, lane_names, titles_in}
-pub use Trees.{is_umount, rows_before, takes_mounts, tree_marks}
+pub use Trees.{groups_behind, is_umount, rows_before, takes_mounts, tree_line, tree_marks, tree_rows}
 pub use Words.{xml}
 pub use declared.failing.Failing.{Failing}
 pub use declared.marks.LaneKind.{LaneKind}

@@ -11,14 +11,15 @@ look_part_1 =
     ++ (codes "<style>.am text{font:12px 'DejaVu Sans',Verdana,sans-serif;fill:#1b1f24}"
     ++ (codes ".am path,.am use{fill:none}.am .m{font:11px 'DejaVu Sans Mono',Consolas,monospace}"
     ++ (codes ".am .h{font-weight:bold}.am .s{font-size:10.5px;fill:#57606a}"
-    ++ (codes ".am .s,.am .ok,.am .no{paint-order:stroke;stroke:#fff;stroke-width:2.5px;stroke-linejoin:round}"
+    ++ (codes ".am .p{font-size:8.5px;fill:#57606a}"
+    ++ (codes ".am .s,.am .p,.am .ok,.am .no{paint-order:stroke;stroke:#fff;stroke-width:2.5px;stroke-linejoin:round}"
     ++ (codes ".am .n{fill:#6e7781;text-anchor:end}.am .c{text-anchor:middle}"
     ++ (codes ".am .k{font-size:10px;text-anchor:middle}.am .refused{fill:#9a3412;font-style:italic}"
     ++ (codes ".am .failed{fill:#b42318}.am .ok{font-size:7.5px;fill:#1f5fbf}.am .no{font-size:7.5px;fill:#b42318}"
     ++ (codes ".am .rule{stroke:#e4e8ed}.am .lane{stroke:#c3cad2}.am .column{stroke:#d0d7de}"
     ++ (codes ".am .missing{stroke:#1f5fbf;stroke-opacity:.2;stroke-width:14}"
     ++ (codes ".am .expire{stroke:#b45309;stroke-opacity:.3;stroke-width:14;stroke-dasharray:5 3}"
-    ++ codes ".am .waits{stroke:#1f5fbf;stroke-width:5;stroke-dasharray:3.25}")))))))))))
+    ++ codes ".am .waits{stroke:#1f5fbf;stroke-width:5;stroke-dasharray:3.25}"))))))))))))
 
 -- the styles of walkers and of who else acts
 abbrev pub look_part_2 : List ℕ
@@ -57,11 +58,11 @@ look_part_4 =
     codes "<pattern id='am-hatch' width='6' height='6' patternUnits='userSpaceOnUse' "
     ++ (codes "patternTransform='rotate(45)'><rect width='6' height='6' fill='#fff'/>"
     ++ (codes "<rect width='2' height='6' fill='#e7a49d'/></pattern>\n"
-    ++ (codes "<pattern id='am-rows' y='118' width='1312' height='26' patternUnits='userSpaceOnUse'>"
-    ++ (codes "<path class='rule' d='M0 25.5H1312'/></pattern>\n"
+    ++ (codes "<pattern id='am-rows' y='118' width='1448' height='26' patternUnits='userSpaceOnUse'>"
+    ++ (codes "<path class='rule' d='M0 25.5H1448'/></pattern>\n"
     ++ (codes "<pattern id='am-walkers' x='310' y='118' width='44' height='26' patternUnits='userSpaceOnUse'>"
     ++ (codes "<path class='lane' d='M22 0v26'/></pattern>\n"
-    ++ (codes "<pattern id='am-right' x='852' y='118' width='460' height='26' patternUnits='userSpaceOnUse'>"
+    ++ (codes "<pattern id='am-right' x='852' y='118' width='596' height='26' patternUnits='userSpaceOnUse'>"
     ++ (codes "<path class='lane' d='M32 0v26M179 0v26M193 0v26M207 0v26M221 0v26M235 0v26M249 0v26"
     ++ (codes "M263 0v26M277 0v26'/>"
     ++ codes "<path class='column' d='M8 0v26M170 0v26M286 0v26'/></pattern>\n")))))))))

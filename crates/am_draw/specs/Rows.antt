@@ -1,5 +1,5 @@
 -- The row of an event: own choice (docs/FORMATS.md, "Pictures").
-use Rattle.std.specs.Prelude.{ℕ, ◌+◌, ◌-◌, ◌*◌, List, [], ◌∷◌, ◌++◌, codes, decimal, Option}
+use Rattle.std.specs.Prelude.{ℕ, ◌+◌, ◌-◌, ◌*◌, List, [], ◌∷◌, ◌++◌, codes, decimal, Option, None, Some}
 use Rattle.am_kernel.specs.{KernelState}
 use Rattle.am_names.specs.{MountRow, Status, errno_of, fail_number}
 use Rattle.am_names.specs.declared.trigger.Trigger.{Trigger}
@@ -195,9 +195,9 @@ obs_marks before after lasts (seen.Entered walker mount) =
     label (codes "s") (walker_x lasts walker + 8) 17 (codes "in " ++ decimal mount)
 obs_marks before after lasts (seen.Left walker mount) = []
 obs_marks before after lasts (seen.Mounted mounts) =
-    shifted (moved lasts) (mounts_marks (codes "came") (codes " on ") after.table.rows mounts)
+    shifted (moved lasts) (mounts_marks (codes "came") (codes " ns ") (Some after.table.groups) after.table.rows mounts)
 obs_marks before after lasts (seen.Unmounted mounts) =
-    shifted (moved lasts) (mounts_marks (codes "went") (codes " off ") before mounts)
+    shifted (moved lasts) (mounts_marks (codes "went") (codes " off ns ") None before mounts)
 obs_marks before after lasts (seen.Delivered token attach packet) =
     stroke (codes "packet") (token_x lasts token + 7) (878 + moved lasts)
 obs_marks before after lasts (seen.Recorded trigger entry) =

@@ -83,7 +83,7 @@ fn put_tag<W: Write>(
     ensures { Puts output.old output.new (tag_text walkers narrow tall rows events)
         (W.contents writer.old) (W.contents writer.new) }
 {
-    let across = 844 + 44 * walkers + 20 * narrow;
+    let across = 980 + 44 * walkers + 20 * narrow;
     let down = 140 + 26 * tall;
     put_size(output, across, down, writer);
     put_box(output, across, down, writer);
@@ -139,10 +139,10 @@ fn put_ground<W: Write>(output: &mut Output, walkers: u64, narrow: u64, down: u6
 fn put_left<W: Write>(output: &mut Output, walkers: u64, narrow: u64, down: u64, writer: &mut W)
     requires walkers { walkers ≤ 1000000 }
     requires narrow { narrow ≤ 3000000 }
-    ensures { Puts output.old output.new (rules (844 + 44 * walkers + 20 * narrow) down
+    ensures { Puts output.old output.new (rules (980 + 44 * walkers + 20 * narrow) down
         ++ walker_lanes (44 * walkers) down) (W.contents writer.old) (W.contents writer.new) }
 {
-    put_rules(output, 844 + 44 * walkers + 20 * narrow, down, writer);
+    put_rules(output, 980 + 44 * walkers + 20 * narrow, down, writer);
     put_walker_lanes(output, 44 * walkers, down, writer);
 }
 
@@ -217,7 +217,7 @@ fn put_right<W: Write>(output: &mut Output, far: u64, down: u64, writer: &mut W)
     put_number(output, b"<g transform='translate(", far, writer);
     put_number(
         output,
-        b")'>\n<rect fill='url(#am-right)' x='852' y='118' width='460' height='",
+        b")'>\n<rect fill='url(#am-right)' x='852' y='118' width='596' height='",
         down,
         writer,
     );

@@ -4,11 +4,14 @@
 pub mod draw;
 mod failing;
 mod failing_bars;
+mod groups;
 mod head;
 mod lasting;
 pub mod law;
 mod look;
 mod marks;
+mod mount_paths;
+mod mount_rows;
 mod negative;
 pub mod part;
 mod row;

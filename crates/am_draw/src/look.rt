@@ -12,7 +12,8 @@ them lanes of walkers, of open tokens, of the daemon and of mounts.</desc>\n\
 <style>.am text{font:12px 'DejaVu Sans',Verdana,sans-serif;fill:#1b1f24}\
 .am path,.am use{fill:none}.am .m{font:11px 'DejaVu Sans Mono',Consolas,monospace}\
 .am .h{font-weight:bold}.am .s{font-size:10.5px;fill:#57606a}\
-.am .s,.am .ok,.am .no{paint-order:stroke;stroke:#fff;stroke-width:2.5px;stroke-linejoin:round}\
+.am .p{font-size:8.5px;fill:#57606a}\
+.am .s,.am .p,.am .ok,.am .no{paint-order:stroke;stroke:#fff;stroke-width:2.5px;stroke-linejoin:round}\
 .am .n{fill:#6e7781;text-anchor:end}.am .c{text-anchor:middle}\
 .am .k{font-size:10px;text-anchor:middle}.am .refused{fill:#9a3412;font-style:italic}\
 .am .failed{fill:#b42318}.am .ok{font-size:7.5px;fill:#1f5fbf}.am .no{font-size:7.5px;fill:#b42318}\
@@ -46,11 +47,11 @@ markerWidth='6' markerHeight='6' orient='auto'>\
 <pattern id='am-hatch' width='6' height='6' patternUnits='userSpaceOnUse' \
 patternTransform='rotate(45)'><rect width='6' height='6' fill='#fff'/>\
 <rect width='2' height='6' fill='#e7a49d'/></pattern>\n\
-<pattern id='am-rows' y='118' width='1312' height='26' patternUnits='userSpaceOnUse'>\
-<path class='rule' d='M0 25.5H1312'/></pattern>\n\
+<pattern id='am-rows' y='118' width='1448' height='26' patternUnits='userSpaceOnUse'>\
+<path class='rule' d='M0 25.5H1448'/></pattern>\n\
 <pattern id='am-walkers' x='310' y='118' width='44' height='26' patternUnits='userSpaceOnUse'>\
 <path class='lane' d='M22 0v26'/></pattern>\n\
-<pattern id='am-right' x='852' y='118' width='460' height='26' patternUnits='userSpaceOnUse'>\
+<pattern id='am-right' x='852' y='118' width='596' height='26' patternUnits='userSpaceOnUse'>\
 <path class='lane' d='M32 0v26M179 0v26M193 0v26M207 0v26M221 0v26M235 0v26M249 0v26\
 M263 0v26M277 0v26'/>\
 <path class='column' d='M8 0v26M170 0v26M286 0v26'/></pattern>\n\

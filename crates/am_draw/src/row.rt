@@ -10,7 +10,7 @@ ghost use Rattle.am_draw.specs.Parts.{most_rows};
 ghost use Rattle.am_draw.specs.Stretches.{moved};
 ghost use Rattle.am_draw.specs.Rows.{token_x, walker_x, system_x, inset, numbered_mark, walker_mark, administrator_mark, daemon_mark, act_mark, actor_marks, kind_words, packet_words, queued_marks, answered_symbol, released_class, status_class, status_words, status_error, released_marks, book_marks, catatonic_words, shifted, obs_marks, obs_drawn, seen_drawn, told_drawn, marks};
 ghost use Rattle.am_draw.specs.FailingBars.{named_words};
-ghost use Rattle.am_draw.specs.Trees.{mounts_marks, tree_rows};
+ghost use Rattle.am_draw.specs.Trees.{groups_behind, mounts_marks, tree_rows};
 ghost use Rattle.am_draw.specs.Words.{words};
 
 use crate::failing_bars::{put_failures, put_named};
@@ -18,10 +18,11 @@ use crate::lasting::Lasting;
 use crate::marks::{
     LaneKind, daemon_x, lane_x, put_closing, put_number_label, put_opening, put_stamp, put_stroke,
 };
+use crate::mount_rows::{MountRows, RowsBefore};
 use crate::stretch::{
     Until, first_system, first_token, moved, put_ended_bars, put_living_bars, walker_columns,
 };
-use crate::trees::{MountRows, Trees, put_mounts};
+use crate::trees::{Trees, put_mounts};
 use crate::went::{Went, error_word, mark_of};
 use crate::words::put_words;
 use am_names::{Attach, FailNo, FsId, JobId, MountIds, Status, Token, Trigger, WalkerId};
@@ -273,7 +274,7 @@ fn put_shifted<W: Write>(
     writer: &mut W,
 )
     ensures { Puts output.old output.new (shifted (moved (lasts_of lasting.now))
-        (mounts_marks symbol.now joint.now (tree_rows rows.now) mounts.now))
+        (mounts_marks symbol.now joint.now (groups_behind rows.now) (tree_rows rows.now) mounts.now))
         (W.contents writer.old) (W.contents writer.new) }
 {
     let far = moved(lasting);
@@ -330,7 +331,7 @@ fn put_obs<W: Write>(
                 output,
                 lasting,
                 b"came",
-                b" on ",
+                b" ns ",
                 &MountRows::Behind(trees.behind),
                 mounts,
                 writer,
@@ -341,8 +342,8 @@ fn put_obs<W: Write>(
                 output,
                 lasting,
                 b"went",
-                b" off ",
-                &MountRows::Before(trees.before),
+                b" off ns ",
+                &MountRows::Before(RowsBefore::of(trees.before)),
                 mounts,
                 writer,
             )

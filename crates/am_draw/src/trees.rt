@@ -1,16 +1,18 @@
 //! Mounts on the trees where they come and go.
 
-ghost use Rattle.std.specs.Prelude.{◌≡◌, ◌++◌, take, slice_get, option_copied, codes, IfOk};
+ghost use Rattle.std.specs.Prelude.{◌≡◌, ◌++◌, take, slice_get, option_copied, codes, decimal, IfOk};
 ghost use Rattle.std.specs.Bool.{OnTrue};
+ghost use Rattle.std.specs.List.{flat_map};
 ghost use Rattle.am_mount.specs.{mount_row};
-ghost use Rattle.am_script.specs.{place_text, Puts};
+ghost use Rattle.am_script.specs.{Puts};
 ghost use Rattle.am_world.specs.Capacity.{state_of};
-ghost use Rattle.am_draw.specs.Trees.{is_umount, takes_mounts, rows_before, tree_rows, tree_x, tree_mark, tree_marks, point_words, row_words, tree_words, more_dots, tree_label, tree_label_in, tree_labels, mounts_marks};
-ghost use Rattle.am_draw.specs.Words.{words};
+ghost use Rattle.am_draw.specs.Trees.{groups_behind, groups_words, is_umount, more_words, mounts_marks, ns_words, place_words, rows_before, takes_mounts, tree_label, tree_label_in, tree_labels, tree_line, tree_mark, tree_marks, tree_rows, tree_title, tree_words, tree_x};
 
+use crate::groups::put_groups;
 use crate::marks::{put_closing, put_opening, put_stamp};
-use crate::words::put_words;
-use am_names::{MountId, MountIds, MountRow, NsId, Place, Position};
+use crate::mount_paths::put_path;
+use crate::mount_rows::{MountRows, row_of};
+use am_names::{MountId, MountIds, MountRow, NsId};
 use am_script::answer_line::{put_number, put_word};
 use am_script::output::Output;
 use am_world::{Act, Event, World};
@@ -81,29 +83,6 @@ pub(crate) fn rows_before(
     Ok(Vec::new(alloc))
 }
 
-/// The rows of mounts: copies of those before an event, or those of the world behind it.
-#[derive(Clone, Copy)]
-pub enum MountRows<'a> {
-    Before(&'a [MountRow]),
-    Behind(&'a World),
-}
-
-fn row_among(rows: &[MountRow], mount: MountId) -> Option<&MountRow>
-    ensures { option_copied result ≡ mount_row rows.now mount }
-{
-    rows.iter().find(|row| row.mount == mount)
-}
-
-/// The row of a mount: a world finds it by halves, and those that were copied are looked at in order.
-fn row_of<'a>(rows: &MountRows<'a>, mount: MountId) -> Option<&'a MountRow>
-    ensures { option_copied result ≡ mount_row (tree_rows rows.now) mount }
-{
-    match rows {
-        MountRows::Before(rows) => row_among(rows, mount),
-        MountRows::Behind(world) => world.mount_row(mount),
-    }
-}
-
 /// The middle of the lane of a namespace, in pixels from the left.
 fn tree_x(ns: NsId) -> u64
     ensures { result ≡ tree_x ns }
@@ -153,83 +132,119 @@ fn put_tree_marks<W: Write>(
     }
 }
 
-/// The path of a place in its mount.
-fn place_text(place: &Place) -> &[u8]
-    ensures { result.now ≡ place_text place.now }
+/// Puts out how a mount takes part in propagation, where it came.
+fn put_groups_in<W: Write>(
+    output: &mut Output,
+    rows: &MountRows<'_>,
+    mount: MountId,
+    writer: &mut W,
+)
+    ensures { Puts output.old output.new (groups_words (groups_behind rows.now) mount)
+        (W.contents writer.old) (W.contents writer.new) }
 {
-    let text = place.text();
-    if text.is_empty() {
-        return b"/";
+    match rows {
+        MountRows::Before(_) => put_word(output, b"", writer),
+        MountRows::Behind(world) => put_groups(output, world, mount, writer),
     }
-    text
 }
 
 #[tactic(auto, using(am_script::proofs::Pieces::puts_two))]
-fn put_position<W: Write>(output: &mut Output, joint: &[u8], position: &Position, writer: &mut W)
-    ensures { Puts output.old output.new (point_words joint.now (Some position.now))
+fn put_ns<W: Write>(output: &mut Output, joint: &[u8], ns: NsId, writer: &mut W)
+    ensures { Puts output.old output.new (joint.now ++ (decimal ns ++ codes " "))
         (W.contents writer.old) (W.contents writer.new) }
 {
-    put_number(output, joint, position.mount.0, writer);
-    put_words(output, 7, place_text(&position.place), writer);
+    put_number(output, joint, u64::from(ns.0), writer);
+    put_word(output, b" ", writer);
 }
 
-fn put_point<W: Write>(
-    output: &mut Output,
-    joint: &[u8],
-    mountpoint: &Option<Position>,
-    writer: &mut W,
-)
-    ensures { Puts output.old output.new (point_words joint.now mountpoint.now)
-        (W.contents writer.old) (W.contents writer.new) }
-{
-    match mountpoint {
-        None => put_word(output, b", a root", writer),
-        Some(position) => put_position(output, joint, position, writer),
-    }
-}
-
-fn put_row_words<W: Write>(
+fn put_ns_words<W: Write>(
     output: &mut Output,
     joint: &[u8],
     rows: &MountRows<'_>,
     mount: MountId,
     writer: &mut W,
 )
-    ensures { Puts output.old output.new (row_words joint.now (mount_row (tree_rows rows.now) mount))
+    ensures { Puts output.old output.new (ns_words joint.now (mount_row (tree_rows rows.now) mount))
         (W.contents writer.old) (W.contents writer.new) }
 {
     match row_of(rows, mount) {
-        Some(row) => put_point(output, joint, &row.mountpoint, writer),
+        Some(row) => put_ns(output, joint, row.ns, writer),
         None => put_word(output, b"", writer),
     }
 }
 
-#[tactic(auto, using(am_script::proofs::Pieces::puts_none))]
-fn put_dots<W: Write>(output: &mut Output, more: bool, writer: &mut W)
-    ensures { Puts output.old output.new (more_dots more) (W.contents writer.old)
-        (W.contents writer.new) }
+/// Puts out a mount, its namespace, and its path there, of which so many of the first and last bytes stay.
+#[tactic(auto, using(am_script::proofs::Pieces::puts_three))]
+fn put_place_words<W: Write>(
+    output: &mut Output,
+    half: u64,
+    joint: &[u8],
+    rows: &MountRows<'_>,
+    mount: MountId,
+    writer: &mut W,
+)
+    ensures { Puts output.old output.new (place_words half joint.now (tree_rows rows.now) mount)
+        (W.contents writer.old) (W.contents writer.new) }
 {
-    if more {
-        put_word(output, b" ...", writer);
-    }
+    put_number(output, b"", mount.0, writer);
+    put_ns_words(output, joint, rows, mount, writer);
+    put_path(output, half, rows, mount, writer);
 }
 
-/// Puts out a mount, and where it stands.
-#[tactic(auto, using(am_script::proofs::Pieces::puts_three))]
+/// The same, and how it takes part in propagation.
+#[tactic(auto, using(am_script::proofs::Pieces::puts_two))]
 fn put_tree_words<W: Write>(
+    output: &mut Output,
+    half: u64,
+    joint: &[u8],
+    rows: &MountRows<'_>,
+    mount: MountId,
+    writer: &mut W,
+)
+    ensures { Puts output.old output.new
+        (tree_words half joint.now (groups_behind rows.now) (tree_rows rows.now) mount)
+        (W.contents writer.old) (W.contents writer.new) }
+{
+    put_place_words(output, half, joint, rows, mount, writer);
+    put_groups_in(output, rows, mount, writer);
+}
+
+#[tactic(auto, using(am_script::proofs::Pieces::puts_two))]
+fn put_more<W: Write>(output: &mut Output, more: u64, writer: &mut W)
+    ensures { Puts output.old output.new (codes ", " ++ (decimal more ++ codes " more"))
+        (W.contents writer.old) (W.contents writer.new) }
+{
+    put_number(output, b", ", more, writer);
+    put_word(output, b" more", writer);
+}
+
+#[tactic(auto, using(am_script::proofs::Pieces::puts_none))]
+fn put_more_in<W: Write>(output: &mut Output, more: u64, writer: &mut W)
+    ensures { Puts output.old output.new (more_words more) (W.contents writer.old)
+        (W.contents writer.new) }
+{
+    if more == 0 {
+        return;
+    }
+    put_more(output, more, writer);
+}
+
+/// Puts out a mount, and how many more there are.
+#[tactic(auto, using(am_script::proofs::Pieces::puts_two))]
+fn put_label_words<W: Write>(
     output: &mut Output,
     joint: &[u8],
     rows: &MountRows<'_>,
     mount: MountId,
-    more: bool,
+    more: u64,
     writer: &mut W,
 )
-    ensures { Puts output.old output.new (tree_words joint.now (tree_rows rows.now) mount more)
+    ensures { Puts output.old output.new
+        (tree_words 7 joint.now (groups_behind rows.now) (tree_rows rows.now) mount ++ more_words more)
         (W.contents writer.old) (W.contents writer.new) }
 {
-    put_number(output, b"", mount.0, writer);
-    put_row_words(output, joint, rows, mount, writer);
-    put_dots(output, more, writer);
+    put_tree_words(output, 7, joint, rows, mount, writer);
+    put_more_in(output, more, writer);
 }
 
 #[tactic(auto, using(am_script::proofs::Pieces::puts_three))]
@@ -239,14 +254,15 @@ fn put_tree_label<W: Write>(
     joint: &[u8],
     rows: &MountRows<'_>,
     mount: MountId,
-    more: bool,
+    more: u64,
     writer: &mut W,
 )
-    ensures { Puts output.old output.new (tree_label y joint.now (tree_rows rows.now) mount more)
+    ensures { Puts output.old output.new
+        (tree_label y joint.now (groups_behind rows.now) (tree_rows rows.now) mount more)
         (W.contents writer.old) (W.contents writer.new) }
 {
-    put_opening(output, b"s", 1148, y, writer);
-    put_tree_words(output, joint, rows, mount, more, writer);
+    put_opening(output, b"p", 1148, y, writer);
+    put_label_words(output, joint, rows, mount, more, writer);
     put_closing(output, writer);
 }
 
@@ -257,10 +273,11 @@ fn put_tree_label_in<W: Write>(
     joint: &[u8],
     rows: &MountRows<'_>,
     mount: Option<MountId>,
-    more: bool,
+    more: u64,
     writer: &mut W,
 )
-    ensures { Puts output.old output.new (tree_label_in y joint.now (tree_rows rows.now) mount more)
+    ensures { Puts output.old output.new
+        (tree_label_in y joint.now (groups_behind rows.now) (tree_rows rows.now) mount more)
         (W.contents writer.old) (W.contents writer.new) }
 {
     if let Some(mount) = mount {
@@ -274,7 +291,7 @@ fn mount_at(mounts: &[MountId], at: usize) -> Option<MountId>
     mounts.get(at).copied()
 }
 
-#[tactic(auto, using(am_script::proofs::Pieces::puts_two))]
+#[tactic(auto, using(am_script::proofs::Pieces::puts_three))]
 fn put_tree_labels<W: Write>(
     output: &mut Output,
     joint: &[u8],
@@ -282,16 +299,70 @@ fn put_tree_labels<W: Write>(
     mounts: &[MountId],
     writer: &mut W,
 )
-    ensures { Puts output.old output.new (tree_labels joint.now (tree_rows rows.now) mounts.now)
+    ensures { Puts output.old output.new
+        (tree_labels joint.now (groups_behind rows.now) (tree_rows rows.now) mounts.now)
         (W.contents writer.old) (W.contents writer.new) }
 {
-    let more = 2 < mounts.len();
-    put_tree_label_in(output, 11, joint, rows, mount_at(mounts, 0), false, writer);
-    put_tree_label_in(output, 22, joint, rows, mount_at(mounts, 1), more, writer);
+    let more = (mounts.len() as u64).saturating_sub(3);
+    put_tree_label_in(output, 9, joint, rows, mount_at(mounts, 0), 0, writer);
+    put_tree_label_in(output, 17, joint, rows, mount_at(mounts, 1), 0, writer);
+    put_tree_label_in(output, 25, joint, rows, mount_at(mounts, 2), more, writer);
 }
 
-/// Puts out the marks of mounts that stand in these rows, and words that say where.
+/// Puts out a mount in a line of its own.
 #[tactic(auto, using(am_script::proofs::Pieces::puts_two))]
+fn put_tree_line<W: Write>(
+    output: &mut Output,
+    joint: &[u8],
+    rows: &MountRows<'_>,
+    mount: MountId,
+    writer: &mut W,
+)
+    ensures { Puts output.old output.new
+        (tree_line joint.now (groups_behind rows.now) (tree_rows rows.now) mount)
+        (W.contents writer.old) (W.contents writer.new) }
+{
+    put_tree_words(output, 4095, joint, rows, mount, writer);
+    put_word(output, b"\n", writer);
+}
+
+#[tactic(auto, using(am_script::proofs::Pieces::puts_none))]
+fn put_tree_lines<W: Write>(
+    output: &mut Output,
+    joint: &[u8],
+    rows: &MountRows<'_>,
+    mounts: &[MountId],
+    writer: &mut W,
+)
+    ensures { Puts output.old output.new
+        (flat_map (tree_line joint.now (groups_behind rows.now) (tree_rows rows.now)) mounts.now)
+        (W.contents writer.old) (W.contents writer.new) }
+{
+    for mount in mounts {
+        put_tree_line(output, joint, rows, *mount, writer);
+    }
+}
+
+/// Puts out all mounts by name, as they are told where one points at their marks or their words.
+#[tactic(auto, using(am_script::proofs::Pieces::puts_three))]
+fn put_tree_title<W: Write>(
+    output: &mut Output,
+    joint: &[u8],
+    rows: &MountRows<'_>,
+    mounts: &[MountId],
+    writer: &mut W,
+)
+    ensures { Puts output.old output.new
+        (tree_title joint.now (groups_behind rows.now) (tree_rows rows.now) mounts.now)
+        (W.contents writer.old) (W.contents writer.new) }
+{
+    put_word(output, b"<title>", writer);
+    put_tree_lines(output, joint, rows, mounts, writer);
+    put_word(output, b"</title>\n", writer);
+}
+
+/// Puts out the names and the marks of mounts that are in these rows, and words that say where.
+#[tactic(auto, using(am_script::proofs::Pieces::puts_three))]
 pub(crate) fn put_mounts<W: Write>(
     output: &mut Output,
     symbol: &[u8],
@@ -300,10 +371,11 @@ pub(crate) fn put_mounts<W: Write>(
     mounts: &MountIds,
     writer: &mut W,
 )
-    ensures { Puts output.old output.new (mounts_marks symbol.now joint.now (tree_rows rows.now) mounts.now)
-        (W.contents writer.old) (W.contents writer.new) }
+    ensures { Puts output.old output.new (mounts_marks symbol.now joint.now (groups_behind rows.now)
+        (tree_rows rows.now) mounts.now) (W.contents writer.old) (W.contents writer.new) }
 {
     let mounts = mounts.as_slice();
+    put_tree_title(output, joint, rows, mounts, writer);
     put_tree_marks(output, symbol, rows, first_mounts(mounts), writer);
     put_tree_labels(output, joint, rows, mounts, writer);
 }
