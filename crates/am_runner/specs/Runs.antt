@@ -9,12 +9,12 @@ use Rattle.am_names.specs.declared.errno.Errno.TheVariants.{NoMemory}
 use Rattle.am_state.specs.{Obs}
 use Rattle.am_state.specs.declared.obs.Obs.TheVariants.{Entered, Left}
 use Rattle.am_machine.specs.{Event, Answer, Entry, Setup}
-use Rattle.am_machine.specs.declared.event.Event.TheVariants.{Walk}
-use Rattle.am_machine.specs.declared.answer.Answer.TheVariants.{Refused}
+use Rattle.am_machine.specs.declared.event.Event.TheVariants.{Leave, Walk}
+use Rattle.am_machine.specs.declared.answer.Answer.TheVariants.{At, Done, Refused}
 use Rattle.am_pipe.specs.{Note, Taker, taken_by}
 use Rattle.am_shared.specs.Sharing.{Sharing}
 use Rattle.am_shared.specs.{AreThePackets, IsSharedFrom, Matches, Receipt, waiting}
-use Rattle.am_runner.specs.Parts.{Plan, TakePart}
+use Rattle.am_runner.specs.Parts.{Plan, TakePart, keep_of}
 use Rattle.am_runner.specs.declared.tally.Tally.{Tally}
 
 -- memory ran out
@@ -31,6 +31,29 @@ is_walk event = false
 unfoldable pub is_round : Entry → Bool
 is_round e = is_walk e.event && not (is_out_of_memory e.answer)
 
+-- a walk arrives
+abbrev pub is_at : Answer → Bool
+is_at (At position) = true
+is_at answer = false
+
+-- so a walker enters a mount by this event
+abbrev pub enters : Entry → Bool
+enters e = is_at e.answer
+
+-- a walker leaves
+abbrev pub is_leave : Event → Bool
+is_leave (Leave walker) = true
+is_leave event = false
+
+-- it is done
+abbrev pub is_told_done : Answer → Bool
+is_told_done Done = true
+is_told_done answer = false
+
+-- so a walker leaves a mount by this event
+unfoldable pub leaves : Entry → Bool
+leaves e = is_leave e.event && is_told_done e.answer
+
 -- a walker entered a mount
 abbrev pub is_entered : Obs → Bool
 is_entered (Entered walker mount) = true
@@ -43,7 +66,8 @@ is_left obs = false
 
 -- A run over a world that began with this opening: the history is that of a single thread, and each of its entries is
 -- the receipt, once, of one of those who took part. What their ends of the pipe took, what is left in it, and what waits
--- for room in it are the packets of the trace, each once. The pipe has as much room as was asked for.
+-- for room in it are the packets of the trace, each once. The pipe has as much room as was asked for, and as much is
+-- kept.
 pub record IsRun (opening : Setup) (plan : Plan) (workers : ℕ) (s : Sharing) : Type 0 where
   pub from : IsSharedFrom opening s
   pub callers : List (List Receipt)
@@ -53,6 +77,7 @@ pub record IsRun (opening : Setup) (plan : Plan) (workers : ℕ) (s : Sharing) :
   pub left : List (ℕ × Note)
   pub packets : AreThePackets s ((taken_by takers ++ left) ++ waiting s)
   pub room : s.put.room ≡ plan.capacity
+  pub keep : s.keep ≡ keep_of plan.watched
 
 -- the rounds of a history, and how often its walkers entered and left a mount
 pub record IsTallyOf (tally : Tally) (s : Sharing) : Type 0 where
@@ -73,7 +98,7 @@ pub record IsAuto (opening : Setup) : Type 0 where
   pub maps_are : opening.maps ≡ rows ∷ []
 
 -- two paths for so many walkers, each of which makes so many rounds, and the daemon doesn't die; the pipe has room for
--- 64 notes
+-- 64 notes, and what is observed isn't kept
 abbrev pub auto_plan : ℕ → ℕ → Plan
 auto_plan walkers rounds = record {
   point = codes "/auto";
@@ -82,6 +107,7 @@ auto_plan walkers rounds = record {
   rounds = rounds;
   breaks = 0;
   capacity = 64;
+  watched = false;
 }
 
 -- The tally of a run of so many walkers and workers, and an expirer: of rounds it counts what was

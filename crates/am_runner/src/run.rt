@@ -1,16 +1,16 @@
 //! A run of walkers, workers and an expirer.
 
-ghost use Rattle.std.specs.Prelude.{◌≡◌, ◌+◌, ◌<◌, ◌^◌, [], vec_len, All, IfOk};
+ghost use Rattle.std.specs.Prelude.{◌≡◌, ◌+◌, ◌<◌, ◌^◌, true, [], vec_len, All, IfOk};
 ghost use Rattle.std.specs.Fn.{FnOnceReturnsAt};
-ghost use Rattle.am_shared.specs.{opening_of};
+ghost use Rattle.am_shared.specs.{keeps_events, opening_of};
 ghost use Rattle.am_shared.specs.Sharing.{Sharing};
 ghost use Rattle.am_runner.specs.Parts.{AreWalkers, AreWorkers, IsBreaker, IsExpirer, TakePart};
-ghost use Rattle.am_runner.specs.Parts.{breakers, plan_of};
+ghost use Rattle.am_runner.specs.Parts.{breakers, keep_of, plan_of};
 ghost use Rattle.am_runner.specs.Runs.{IsRun};
 
 use crate::asking::{Asked, ask_all};
 use crate::parts::{Attached, Common, attach};
-use crate::plan::{Planned, Run};
+use crate::plan::{Planned, Run, keep_of};
 use crate::serving::{Back, Service, start_workers, workers_back};
 use crate::workers::{Backend, Gate};
 use am_pipe::{Closer, Note, PutEnd, gather as gather_notes, pipe};
@@ -121,6 +121,7 @@ fn all_back<
     requires breakers { crew.wanted.breakers ≡ breakers L.plan.breaks }
     requires takers { All (λ taker. (taker.pipe ≡ L.pipe) × (taker.got ≡ []))
         crew.service.takers.items }
+    requires keep { keeps_events L.keep ≡ true }
     ensures { IfOk result (λ back.
         TakePart L.plan L.pipe crew.wanted.workers back.takers.items back.callers.items) }
 {
@@ -178,6 +179,7 @@ fn all_in_scope<
     requires breakers { crew.wanted.breakers ≡ breakers L.plan.breaks }
     requires takers { All (λ taker. (taker.pipe ≡ L.pipe) × (taker.got ≡ []))
         crew.service.takers.items }
+    requires keep { keeps_events L.keep ≡ true }
     ensures { IfOk result (λ back.
         TakePart L.plan L.pipe crew.wanted.workers back.takers.items back.callers.items) }
 {
@@ -197,6 +199,7 @@ fn all_in_scope<
             requires breakers { crew.wanted.breakers ≡ breakers L.plan.breaks }
             requires takers { All (λ taker. (taker.pipe ≡ L.pipe) × (taker.got ≡ []))
                 crew.service.takers.items }
+            requires keep { keeps_events L.keep ≡ true }
             ensures { IfOk result (λ back.
                 TakePart L.plan L.pipe crew.wanted.workers back.takers.items back.callers.items) }
         { all_back(scope, rt, alloc, crew, common) },
@@ -217,6 +220,7 @@ fn end<L: Planned, B: Drop, T: Drop, F: FnOnce(&Shared) -> T, R: Wait>(
     requires callers { (L.callers ≡ count) × (0 < count) }
     requires takers { L.takers ≡ workers }
     requires room { L.room ≡ L.plan.capacity }
+    requires keep { L.keep ≡ keep_of L.plan.watched }
     requires judge { F.IsAlwaysCallable judge }
     ensures { IfOk result (λ ran. (s : Sharing) × IsRun L.opening L.plan workers s
         × FnOnceReturnsAt F.FnOnce judge s ran.found) }
@@ -266,6 +270,7 @@ fn run_among<
     requires opening { L.opening ≡ opening_of start.opening }
     requires pipe { (L.pipe ≡ start.put.pipe) × (L.takers ≡ start.put.takers) × (L.room ≡ start.put.room) }
     requires room { start.put.room ≡ run.capacity }
+    requires keep { L.keep ≡ keep_of run.watched }
     requires plan { L.plan ≡ plan_of run }
     requires judge { F.IsAlwaysCallable judge }
     ensures { IfOk result (λ ran. (s : Sharing) × IsRun L.opening L.plan start.workers s
@@ -280,7 +285,8 @@ fn run_among<
         service,
     } = start;
     let closer = put.closer()?;
-    let mut others = share::<L>(alloc, logbook, opening, put, count)?;
+    let keep = keep_of(run.watched);
+    let mut others = share::<L>(alloc, logbook, opening, put, count, keep)?;
     let first = attach(rt, alloc, others.pop().ok_or(AllocError)?, run.point)?;
     let wanted = Wanted {
         walkers: run.walkers,

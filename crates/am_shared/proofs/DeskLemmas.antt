@@ -1,9 +1,9 @@
 -- An event more, which is a call of a caller.
 use Rattle.std.proofs.Common.{◌≡◌, ℕ, ◌+◌, ◌-◌, List, [], ◌∷◌, ◌++◌, length, Some, slice_get, sym, ap}
-use Rattle.std.proofs.Common.{◌∙◌, subst, arith, length-append}
+use Rattle.std.proofs.Common.{◌∙◌, ◌≤◌, subst, arith, length-append, length-take-le, take, take-append-drop}
 use Rattle.am_machine.specs.{Answer, Entry, Event, Setup, entry, setup_of}
 use Rattle.am_world.specs.Capacity.{state_of}
-use Rattle.am_shared.specs.{Applies, IsShared, StandsLast}
+use Rattle.am_shared.specs.{Applies, IsShared, IsSharedFrom, Keep, StandsLast, all_taken, left_of}
 use Rattle.am_shared.specs.Sharing.{Sharing}
 use Rattle.am_shared.specs.Chronicle.{AreIn, keeper}
 use Rattle.am_shared.specs.{Known}
@@ -47,14 +47,43 @@ stands_last o old new event position answer mine h shared opening calls =
     }
 
 -- what is kept of a shared world that isn't given away yet
-pub kept_of : (callers : ℕ) (o : Setup) (pipe : TableId) (takers room : ℕ) (keeping : Known)
+pub kept_of : (callers : ℕ) (o : Setup) (pipe : TableId) (takers room : ℕ) (keep : Keep) (keeping : Known)
     (found : Option Sharing) (s : Sharing) → found ≡ Some s
     → MatchOption found (keeping.parts ≡ callers)
     (λ s. (keeping ≡ keeper callers s.history) × (setup_of (state_of s.world) ≡ o)
-    × (s.put.pipe ≡ pipe) × (s.put.takers ≡ takers) × (s.put.room ≡ room))
+    × (s.put.pipe ≡ pipe) × (s.put.takers ≡ takers) × (s.put.room ≡ room) × (s.keep ≡ keep))
     → (keeping ≡ keeper callers s.history) × (setup_of (state_of s.world) ≡ o)
-    × (s.put.pipe ≡ pipe) × (s.put.takers ≡ takers) × (s.put.room ≡ room)
-kept_of callers o pipe takers room keeping found s is kept = subst
+    × (s.put.pipe ≡ pipe) × (s.put.takers ≡ takers) × (s.put.room ≡ room) × (s.keep ≡ keep)
+kept_of callers o pipe takers room keep keeping found s is kept = subst
     (λ (f : Option Sharing). MatchOption f (keeping.parts ≡ callers)
     (λ s. (keeping ≡ keeper callers s.history) × (setup_of (state_of s.world) ≡ o)
-    × (s.put.pipe ≡ pipe) × (s.put.takers ≡ takers) × (s.put.room ≡ room))) is kept
+    × (s.put.pipe ≡ pipe) × (s.put.takers ≡ takers) × (s.put.room ≡ room) × (s.keep ≡ keep))) is kept
+
+-- so it is once all its entries are taken
+pub kept_taken : (callers : ℕ) (o : Setup) (pipe : TableId) (takers room : ℕ) (keep : Keep) (keeping : Known)
+    (old new : Sharing) → new ≡ all_taken old
+    → (keeping ≡ keeper callers old.history) × (setup_of (state_of old.world) ≡ o)
+    × (old.put.pipe ≡ pipe) × (old.put.takers ≡ takers) × (old.put.room ≡ room) × (old.keep ≡ keep)
+    → (keeping ≡ keeper callers new.history) × (setup_of (state_of new.world) ≡ o)
+    × (new.put.pipe ≡ pipe) × (new.put.takers ≡ takers) × (new.put.room ≡ room) × (new.keep ≡ keep)
+kept_taken callers o pipe takers room keep keeping old new is kept = subst
+    (λ (s : Sharing). (keeping ≡ keeper callers s.history) × (setup_of (state_of s.world) ≡ o)
+    × (s.put.pipe ≡ pipe) × (s.put.takers ≡ takers) × (s.put.room ≡ room) × (s.keep ≡ keep)) (sym is) kept
+
+-- what was taken comes behind what was taken before
+pub taken_before : (o : Setup) (old new : Sharing) (mine : List (ℕ × Entry)) (entries : List Entry) (before : ℕ)
+    → new ≡ all_taken old → IsShared new → setup_of (state_of old.world) ≡ o → AreIn old.history mine
+    → entries ≡ left_of old → before ≡ old.taken → old.taken ≤ length old.history
+    → (s : Sharing) × IsSharedFrom o s × AreIn s.history mine × (earlier : List Entry)
+    × (before ≡ length earlier) × (s.history ≡ earlier ++ entries)
+taken_before o old new mine entries before is shared opening calls left count within =
+    let same : new.history ≡ old.history = ap (λ (s : Sharing). s.history) is in
+    let world : setup_of (state_of new.world) ≡ setup_of (state_of old.world) =
+    ap (λ (s : Sharing). setup_of (state_of s.world)) is in (
+      new,
+      shared_from o new shared (world ∙ opening),
+      subst (λ (l : List Entry). AreIn l mine) (sym same) calls,
+      take old.taken old.history,
+      count ∙ sym (length-take-le old.taken old.history within),
+      same ∙ sym (take-append-drop old.taken old.history) ∙ ap (λ l. take old.taken old.history ++ l) (sym left),
+    )

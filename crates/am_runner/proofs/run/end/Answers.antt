@@ -37,6 +37,7 @@ returns g c =
           c.gather-gathered.ensures.shared c.gather-gathered.ensures.put.0 c.requires.take
           c.gather-gathered.ensures.matched
           (c.packets_are_taken_left_or_unsent.ensures s notes c.into_parts-put.ensures.shared as_put once)
-          (c.gather-gathered.ensures.put.2 ∙ c.requires.room),
+          (c.gather-gathered.ensures.put.2 ∙ c.requires.room)
+          (c.gather-gathered.ensures.keep ∙ c.requires.keep),
       gave_at g.F.FnOnce c.judge-found.ensures refl,
     )
