@@ -11,6 +11,7 @@ pub mod NegativeLemmas
 pub mod NewestLemmas
 pub mod NothingLemmas
 pub mod PieceLemmas
+pub mod PropagationLemmas
 pub mod RowLemmas
 pub mod RunLemmas
 pub mod StandingEvents

@@ -20,17 +20,19 @@ use Rattle.am_draw.specs.Lasting.{Lasts, behind, added, nothing_lasts}
 use Rattle.am_draw.specs.Head.{empty_picture, head_text, tail_text}
 use Rattle.am_draw.specs.Parts.{part_of, is_drawn, is_past}
 use Rattle.am_draw.specs.Rows.{RowSides, row_text, sides_of}
+use Rattle.am_draw.specs.Propagations.{altered_by}
 use Rattle.am_draw.specs.Trees.{rows_before}
 
 -- ---- a run with its mounts
 
 -- an event of a script, its answer, what is seen of it, the mounts before it, if some may go in it,
--- and the kernel behind it
+-- those that propagate otherwise behind it, and the kernel behind it
 pub record Viewed : Type 0 where
   pub asked : Numbered
   pub answer : Answer
   pub seen : List Obs
   pub before : List MountRow
+  pub altered : List ℕ
   pub after : KernelState
 
 -- the events of these rows
@@ -52,6 +54,7 @@ pub record Views (old : State) (row : Viewed) (new : State) : Type 0 where
   pub step : Step old row.asked.event row.answer row.seen new
   pub has_room : is_out_of_memory row.answer ≡ false
   pub before : row.before ≡ rows_before old row.asked.event
+  pub altered : row.altered ≡ altered_by old row.asked.event new.kernel
   pub after : row.after ≡ new.kernel
 
 -- from old, these events come one after another, and lead to new
@@ -95,18 +98,18 @@ pub record IsSizeOf (start : State) (told : Told) (size : Size) : Type 0 where
 -- ---- what is drawn
 
 -- the row of the event with this number, if it is drawn
-abbrev pub row_in : List MountRow → KernelState → Part → ℕ → Lasts → Event → List Obs → RowSides → List ℕ
-row_in before after part number lasts event seen sides =
-    if is_drawn part number then row_text before after part number lasts event seen sides else []
+abbrev pub row_in : List MountRow → List ℕ → KernelState → Part → ℕ → Lasts → Event → List Obs → RowSides → List ℕ
+row_in before altered after part number lasts event seen sides =
+    if is_drawn part number then row_text before altered after part number lasts event seen sides else []
 
 -- the head stands before the first event
 abbrev pub head_in : Part → ℕ → List ℕ
 head_in part number = if number == 1 then head_text part else []
 
 -- what is drawn for the event with this number: the head before the first, and its row
-abbrev pub drawn_for : List MountRow → KernelState → Part → ℕ → Lasts → Event → List Obs → RowSides → List ℕ
-drawn_for before after part number lasts event seen sides =
-    head_in part number ++ row_in before after part number lasts event seen sides
+abbrev pub drawn_for : List MountRow → List ℕ → KernelState → Part → ℕ → Lasts → Event → List Obs → RowSides → List ℕ
+drawn_for before altered after part number lasts event seen sides =
+    head_in part number ++ row_in before altered after part number lasts event seen sides
 
 -- what is drawn for a line of the script
 pub record Piece : Type 0 where
@@ -118,7 +121,7 @@ abbrev pub event_piece : Part → ℕ → Lasts → Viewed → Piece
 event_piece part number lasts row = record {
   line = row.asked.line;
   bytes =
-      drawn_for row.before row.after part number lasts row.asked.event row.seen
+      drawn_for row.before row.altered row.after part number lasts row.asked.event row.seen
       (sides_of number row.asked.event row.answer);
 }
 

@@ -12,6 +12,7 @@ pub mod Look
 pub mod Marks
 pub mod MountPaths
 pub mod Parts
+pub mod Propagations
 pub mod Rows
 pub mod Sides
 pub mod Standings
@@ -31,6 +32,7 @@ pub use Lasting.{Lasts, acted, added, behind, changed, fresh_in, lasts_of, nothi
 pub use Marks.{lane_x}
 pub use MountPaths.{between, path_to, point_of}
 pub use Parts.{is_drawn, is_past, part_of, row_y, rows_shown}
+pub use Propagations.{altered, altered_at, altered_by, altered_one, propagation_of, propagations_before, propagations_of}
 pub use Rows.{RowSides, obs_drawn, row_text, seen_drawn, sides_of}
 pub use Sides.{sides_said}
 pub use Stretches.{bar, lane_bar, lane_bars}
@@ -41,5 +43,6 @@ pub use declared.failing.Failing.{Failing}
 pub use declared.marks.LaneKind.{LaneKind}
 pub use declared.part.Part.{Part}
 pub use declared.part.Size.{Size}
+pub use declared.propagations.Propagation.{Propagation}
 pub use declared.stretch.Until.{Until}
 pub use declared.went.Went.{Went}

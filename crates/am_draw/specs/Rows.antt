@@ -235,23 +235,34 @@ row_opening y = codes "<g transform='translate(0 " ++ decimal y ++ codes ")'>\n"
 abbrev pub scene : ℕ → List ℕ → List ℕ
 scene y sides = row_opening y ++ sides
 
--- what is seen, and who acts, which stands above the bars
-abbrev pub marks : List MountRow → KernelState → Until → Lasts → Event → Went → List Obs → List ℕ
-marks before after until lasts event went seen =
+-- the mounts that propagate otherwise, if there are some
+abbrev pub altered_marks : Lasts → List ℕ → KernelState → List ℕ
+altered_marks lasts [] after = []
+altered_marks lasts (mount ∷ mounts) after =
+    shifted (moved lasts)
+    (mounts_marks (codes "altered") (codes " ns ") (Some after.table.groups) after.table.rows (mount ∷ mounts))
+
+-- the mounts that propagate otherwise, and who acts
+abbrev pub acted_marks : Lasts → List ℕ → KernelState → Event → Went → List ℕ
+acted_marks lasts altered after event went = altered_marks lasts altered after ++ actor_marks lasts event went
+
+-- what is seen, how mounts propagate otherwise, and who acts, which stands above the bars
+abbrev pub marks : List MountRow → List ℕ → KernelState → Until → Lasts → Event → Went → List Obs → List ℕ
+marks before altered after until lasts event went seen =
     living_bars until lasts event
     ++ (told_drawn before after until (acted until.number lasts event) seen
-    ++ (actor_marks (behind until.number lasts event seen after) event went ++ codes "</g>\n"))
+    ++ (acted_marks (behind until.number lasts event seen after) altered after event went ++ codes "</g>\n"))
 
 -- where the bars of the event with this number end
 abbrev pub until_row : Part → ℕ → Until
 until_row part number = record { skipped = part.skipped; number = number; more = 0 }
 
 -- the row of an event before which this lasts
-abbrev pub row_text : List MountRow → KernelState → Part → ℕ → Lasts → Event → List Obs → RowSides → List ℕ
-row_text before after part number lasts event seen sides =
+abbrev pub row_text : List MountRow → List ℕ → KernelState → Part → ℕ → Lasts → Event → List Obs → RowSides → List ℕ
+row_text before altered after part number lasts event seen sides =
     scene (row_y part number) sides.words
     ++ (titles_in part number lasts
-    ++ marks before after (until_row part number) lasts event sides.went seen)
+    ++ marks before altered after (until_row part number) lasts event sides.went seen)
 
 -- what is said at the sides of the row of this event
 abbrev pub sides_of : ℕ → Event → Answer → RowSides

@@ -15,6 +15,7 @@ use crate::head::{put_empty, put_head, put_tail};
 use crate::lasting::Lasting;
 use crate::negative::negative_of;
 use crate::part::{Part, Size, part_of};
+use crate::propagations::{altered, propagations_before};
 use crate::row::{Asked, put_marks};
 use crate::scene::{Said, put_scene, say};
 use crate::stretch::Until;
@@ -572,16 +573,19 @@ fn draw_event<W: Write>(
 {
     lasting.mend(alloc)?;
     let rows = rows_before(alloc, world, event, part.is_drawn(number))?;
+    let propagations = propagations_before(alloc, world, event, part.is_drawn(number))?;
     let before = world.trace().len();
     let answer = world.step(alloc, event);
     if is_out_of_memory(&answer) {
         return Err(AllocError);
     }
+    let altered = altered(alloc, &propagations, world)?;
     let said = say(alloc, number, event, &answer)?;
     output.begin(line, writer);
     let seen = world.seen_since(before);
     let trees = Trees {
         before: rows.as_slice(),
+        altered: altered.as_slice(),
         behind: world,
     };
     put_drawn(output, part, lasting, &said, event, seen, &trees, writer);
@@ -604,8 +608,8 @@ fn put_drawn<W: Write>(
     writer: &mut W,
 )
     requires { part.now.rows ≤ most_rows }
-    ensures drawn { Puts output.old output.new (drawn_for trees.now.before.now trees.now.behind.now.kernel
-        part.now said.now.number (lasts_of lasting.old) event.now seen.now (sides_said said.now))
+    ensures drawn { Puts output.old output.new (drawn_for trees.now.before.now trees.now.altered.now
+        trees.now.behind.now.kernel part.now said.now.number (lasts_of lasting.old) event.now seen.now (sides_said said.now))
         (W.contents writer.old) (W.contents writer.new) }
     ensures lasts { lasts_of lasting.new ≡ next_lasts part.now said.now.number
         (lasts_of lasting.old) event.now seen.now trees.now.behind.now.kernel }
@@ -637,8 +641,8 @@ fn put_row_in<W: Write>(
     writer: &mut W,
 )
     requires { part.now.rows ≤ most_rows }
-    ensures drawn { Puts output.old output.new (row_in trees.now.before.now trees.now.behind.now.kernel
-        part.now said.now.number (lasts_of lasting.old) event.now seen.now (sides_said said.now))
+    ensures drawn { Puts output.old output.new (row_in trees.now.before.now trees.now.altered.now
+        trees.now.behind.now.kernel part.now said.now.number (lasts_of lasting.old) event.now seen.now (sides_said said.now))
         (W.contents writer.old) (W.contents writer.new) }
     ensures lasts { lasts_of lasting.new ≡ next_lasts part.now said.now.number
         (lasts_of lasting.old) event.now seen.now trees.now.behind.now.kernel }
@@ -666,8 +670,8 @@ fn put_row<W: Write>(
     writer: &mut W,
 )
     requires { said.now.number - part.now.skipped ≤ most_rows }
-    ensures drawn { Puts output.old output.new (row_text trees.now.before.now trees.now.behind.now.kernel
-        part.now said.now.number (lasts_of lasting.old) event.now seen.now (sides_said said.now))
+    ensures drawn { Puts output.old output.new (row_text trees.now.before.now trees.now.altered.now
+        trees.now.behind.now.kernel part.now said.now.number (lasts_of lasting.old) event.now seen.now (sides_said said.now))
         (W.contents writer.old) (W.contents writer.new) }
     ensures lasts { lasts_of lasting.new ≡ behind said.now.number (lasts_of lasting.old) event.now
         seen.now trees.now.behind.now.kernel }

@@ -14,6 +14,7 @@ mod mount_paths;
 mod mount_rows;
 mod negative;
 pub mod part;
+mod propagations;
 mod row;
 mod scene;
 mod stretch;

@@ -68,6 +68,7 @@ M263 0v26M277 0v26'/>\
 <path id='am-edge' class='edge' d='M-7 0h14'/>\n\
 <path id='am-passes' class='walks' d='M-15 5l6 4l-6 4z'/>\n\
 <circle id='am-came' class='came' r='4'/>\n<circle id='am-went' class='went' r='3.5'/>\n\
+<rect id='am-altered' class='went' x='-3.5' y='-3.5' width='7' height='7'/>\n\
 <g id='am-catatonic'><rect class='catatonic' x='631' y='3' width='376' height='20'/>\
 <rect class='paper' x='634' y='5' width='170' height='16'/></g>\n</defs>\n\
 <rect class='paper' width='100%' height='100%'/>\n\
@@ -102,7 +103,9 @@ M263 0v26M277 0v26'/>\
 <text class='s' x='358' y='50'>act of the administrator</text>\n\
 <use href='#am-came' x='512' y='46'/>\n<text class='s' x='520' y='50'>came</text>\n\
 <use href='#am-went' x='562' y='46'/>\n<text class='s' x='570' y='50'>went (a mount)</text>\n\
-<path class='lasting' d='M670 40v13'/>\n<text class='s' x='678' y='50'>failure that lasts</text>\n</g>\n\
+<path class='lasting' d='M670 40v13'/>\n<text class='s' x='678' y='50'>failure that lasts</text>\n\
+<use href='#am-altered' x='796' y='46'/>\n\
+<text class='s' x='806' y='50'>mount that propagates otherwise</text>\n</g>\n\
 <text class='h' x='46' y='108'>events, and their answers</text>\n\
 <text class='h' x='322' y='108'>walkers</text>\n"
 }

@@ -8,7 +8,7 @@ ghost use Rattle.am_draw.specs.Lasting.{lasts_of, changed, seen_behind, turned, 
 ghost use Rattle.am_draw.specs.Marks.{stamp, label};
 ghost use Rattle.am_draw.specs.Parts.{most_rows};
 ghost use Rattle.am_draw.specs.Stretches.{moved};
-ghost use Rattle.am_draw.specs.Rows.{token_x, walker_x, system_x, inset, numbered_mark, walker_mark, administrator_mark, daemon_mark, act_mark, actor_marks, kind_words, packet_words, queued_marks, answered_symbol, released_class, status_class, status_words, status_error, released_marks, book_marks, catatonic_words, shifted, obs_marks, obs_drawn, seen_drawn, told_drawn, marks};
+ghost use Rattle.am_draw.specs.Rows.{token_x, walker_x, system_x, inset, numbered_mark, walker_mark, administrator_mark, daemon_mark, act_mark, acted_marks, actor_marks, altered_marks, kind_words, packet_words, queued_marks, answered_symbol, released_class, status_class, status_words, status_error, released_marks, book_marks, catatonic_words, shifted, obs_marks, obs_drawn, seen_drawn, told_drawn, marks};
 ghost use Rattle.am_draw.specs.FailingBars.{named_words};
 ghost use Rattle.am_draw.specs.Trees.{groups_behind, mounts_marks, tree_rows};
 ghost use Rattle.am_draw.specs.Words.{words};
@@ -25,7 +25,7 @@ use crate::stretch::{
 use crate::trees::{Trees, put_mounts};
 use crate::went::{Went, error_word, mark_of};
 use crate::words::put_words;
-use am_names::{Attach, FailNo, FsId, JobId, MountIds, Status, Token, Trigger, WalkerId};
+use am_names::{Attach, FailNo, FsId, JobId, MountId, Status, Token, Trigger, WalkerId};
 use am_script::answer_line::{put_entry, put_number, put_word};
 use am_script::output::Output;
 use am_state::KeptTrigger;
@@ -87,8 +87,9 @@ pub(crate) fn put_marks<W: Write>(
 )
     requires rows { until.now.number - until.now.skipped ≤ most_rows }
     requires more { until.now.more ≤ 13 }
-    ensures marks { Puts output.old output.new (marks trees.now.before.now trees.now.behind.now.kernel
-        until.now (lasts_of lasting.old) asked.now.event.now asked.now.went seen.now)
+    ensures marks { Puts output.old output.new (marks trees.now.before.now trees.now.altered.now
+        trees.now.behind.now.kernel until.now (lasts_of lasting.old) asked.now.event.now
+        asked.now.went seen.now)
         (W.contents writer.old) (W.contents writer.new) }
     ensures lasts { lasts_of lasting.new
         ≡ behind until.now.number (lasts_of lasting.old) asked.now.event.now seen.now
@@ -97,7 +98,7 @@ pub(crate) fn put_marks<W: Write>(
     put_living_bars(output, until, lasting, asked.event, writer);
     lasting.act(until.number, asked.event);
     put_told(output, until, lasting, seen, trees, writer);
-    put_actor(output, lasting, asked, writer);
+    put_acted(output, lasting, asked, trees, writer);
     put_word(output, b"</g>\n", writer);
 }
 
@@ -148,6 +149,44 @@ fn put_act<W: Write>(output: &mut Output, lasting: &Lasting, job: JobId, writer:
 {
     let x = daemon_x(moved(lasting));
     put_numbered(output, b"daemon", x, job.0, writer);
+}
+
+/// Puts out the marks of whoever makes an event, and of the mounts that propagate otherwise behind it.
+#[tactic(auto, using(am_script::proofs::Pieces::puts_two))]
+fn put_acted<W: Write>(
+    output: &mut Output,
+    lasting: &Lasting,
+    asked: &Asked<'_>,
+    trees: &Trees<'_>,
+    writer: &mut W,
+)
+    ensures { Puts output.old output.new (acted_marks (lasts_of lasting.now) trees.now.altered.now
+        trees.now.behind.now.kernel asked.now.event.now asked.now.went) (W.contents writer.old)
+        (W.contents writer.new) }
+{
+    put_altered(output, lasting, trees, writer);
+    put_actor(output, lasting, asked, writer);
+}
+
+/// Puts out the marks of the mounts that propagate otherwise behind an event, if there are some.
+#[tactic(auto, using(am_script::proofs::Pieces::puts_none))]
+fn put_altered<W: Write>(output: &mut Output, lasting: &Lasting, trees: &Trees<'_>, writer: &mut W)
+    ensures { Puts output.old output.new (altered_marks (lasts_of lasting.now)
+        trees.now.altered.now trees.now.behind.now.kernel) (W.contents writer.old)
+        (W.contents writer.new) }
+{
+    if trees.altered.is_empty() {
+        return;
+    }
+    put_shifted(
+        output,
+        lasting,
+        b"altered",
+        b" ns ",
+        &MountRows::Behind(trees.behind),
+        trees.altered,
+        writer,
+    );
 }
 
 #[tactic(auto, using(am_script::proofs::Pieces::puts_none))]
@@ -270,7 +309,7 @@ fn put_shifted<W: Write>(
     symbol: &[u8],
     joint: &[u8],
     rows: &MountRows<'_>,
-    mounts: &MountIds,
+    mounts: &[MountId],
     writer: &mut W,
 )
     ensures { Puts output.old output.new (shifted (moved (lasts_of lasting.now))
@@ -333,7 +372,7 @@ fn put_obs<W: Write>(
                 b"came",
                 b" ns ",
                 &MountRows::Behind(trees.behind),
-                mounts,
+                mounts.as_slice(),
                 writer,
             )
         }
@@ -344,7 +383,7 @@ fn put_obs<W: Write>(
                 b"went",
                 b" off ns ",
                 &MountRows::Before(RowsBefore::of(trees.before)),
-                mounts,
+                mounts.as_slice(),
                 writer,
             )
         }

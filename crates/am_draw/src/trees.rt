@@ -12,17 +12,19 @@ use crate::groups::put_groups;
 use crate::marks::{put_closing, put_opening, put_stamp};
 use crate::mount_paths::put_path;
 use crate::mount_rows::{MountRows, row_of};
-use am_names::{MountId, MountIds, MountRow, NsId};
+use am_names::{MountId, MountRow, NsId};
 use am_script::answer_line::{put_number, put_word};
 use am_script::output::Output;
 use am_world::{Act, Event, World};
 use std::alloc::{AllocError, Global};
 use std::io::Write;
 
-/// The mounts before an event, if some may go in it, and the world behind it.
+/// The mounts before an event, if some may go in it, those that propagate otherwise behind it, and the
+/// world behind it.
 #[derive(Clone, Copy)]
 pub struct Trees<'a> {
     pub before: &'a [MountRow],
+    pub altered: &'a [MountId],
     pub behind: &'a World,
 }
 
@@ -368,13 +370,12 @@ pub(crate) fn put_mounts<W: Write>(
     symbol: &[u8],
     joint: &[u8],
     rows: &MountRows<'_>,
-    mounts: &MountIds,
+    mounts: &[MountId],
     writer: &mut W,
 )
     ensures { Puts output.old output.new (mounts_marks symbol.now joint.now (groups_behind rows.now)
         (tree_rows rows.now) mounts.now) (W.contents writer.old) (W.contents writer.new) }
 {
-    let mounts = mounts.as_slice();
     put_tree_title(output, joint, rows, mounts, writer);
     put_tree_marks(output, symbol, rows, first_mounts(mounts), writer);
     put_tree_labels(output, joint, rows, mounts, writer);
