@@ -3,7 +3,7 @@ use Rattle.std.specs.Prelude.{◌≡◌, ◌⊎◌, ℕ, ◌+◌, Bool, true, fa
 use Rattle.am_diagnosis.specs.Scripts.{long_slip}
 use Rattle.am_diagnosis.specs.declared.expected.Slip.{Slip}
 use Rattle.am_group.specs.{MountState}
-use Rattle.am_names.specs.{Errno}
+use Rattle.am_names.specs.declared.errno.Errno.{Errno}
 use Rattle.am_script.specs.{ScriptFault, ScriptFaultKind, fault_at}
 use Rattle.am_script.specs.declared.fault.ScriptFaultKind.TheVariants.{LongLine, NoMemory}
 use Rattle.am_session.specs.{HasSlip, IsBegun, IsKind, NotBegun, Session, Takes}

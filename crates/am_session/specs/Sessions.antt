@@ -6,7 +6,8 @@ use Rattle.am_machine.specs.declared.answer.Answer.TheVariants as answers
 use Rattle.am_machine.specs.declared.event.Event.TheVariants as events
 use Rattle.am_machine.specs.State.{State}
 use Rattle.am_mountinfo.specs.{IsWritten, NotWritten}
-use Rattle.am_names.specs.{Errno, Status, WaitRow}
+use Rattle.am_names.specs.{Status, WaitRow}
+use Rattle.am_names.specs.declared.errno.Errno.{Errno}
 use Rattle.am_script.specs.{ScriptFault, ScriptFaultKind, Summary, LineAnswered, NoNext, NotOpened, Numbered, Told, answer_line, fault_at, is_refused, line_read, lines_of, only_fault, script_of, without_world}
 use Rattle.am_script.specs.Script.{Script}
 use Rattle.am_script.specs.declared.fault.ScriptFaultKind.TheVariants.{BadEvent, BadSection, NoMemory, ReadFailed, WriteFailed}
