@@ -1,5 +1,6 @@
 -- What a line is to a session: own choice (docs/FORMATS.md, "Sessions").
-use Rattle.std.specs.Prelude.{ℕ, Bool, ◌||◌, List, [], ◌∷◌, codes, bytes_eq, Option, None, Some, Result, Ok, Err, option_map, result_ok, if◌then◌else◌}
+use Rattle.std.specs.Prelude.{ℕ, Bool, ◌||◌, List, [], ◌∷◌, codes, bytes_eq, Option, None, Some, Result, Ok, Err, option_map, if◌then◌else◌}
+use Rattle.std.specs.Result.{result_ok}
 use Rattle.am_lines.specs.{begins_with, words_of}
 use Rattle.am_script.specs.{is_long}
 use Rattle.am_names.specs.Path.{path_read}

@@ -4,9 +4,10 @@ ghost use Rattle.std.specs.Prelude.{◌≡◌, ◌+◌, ◌<◌, ◌≤◌, ◌^
 ghost use Rattle.am_script.specs.{fault_at, is_long};
 ghost use Rattle.am_script.specs.declared.fault.ScriptFaultKind.TheVariants.{NoMemory};
 ghost use Rattle.am_session.specs.{IsBegun, Session};
-ghost use Rattle.am_serve.specs.Hearing.{FindsNoEvent, Hears, HeardInHead, HeardLine, KindTold, PlaysLine, fresh, next_fault, question_told};
+ghost use Rattle.am_serve.specs.Hearing.{FindsNoEvent, Heard, Hears, HeardInHead, HeardLine, KindTold, PlaysLine, fresh, next_fault, question_told};
 ghost use Rattle.am_serve.specs.Openings.{Follows, HeardIfHead, IsNoOpening};
 ghost use Rattle.am_serve.specs.declared.complaints.Complaint.TheVariants.{OfScript};
+ghost use Rattle.am_serve.specs.declared.request.Request.TheVariants.{Long};
 ghost use Rattle.am_serve.specs.declared.stands.Stand.TheVariants.{Gathering, Playing};
 ghost use Rattle.am_serve.specs.declared.telling.Telling.TheVariants.{Nothing};
 
@@ -50,7 +51,8 @@ pub(crate) fn no_room(lines: u64) -> Telling
 /// What is told of a line that is too long.
 pub(crate) fn hear_long(serving: &Serving) -> Telling
     requires { serving.now.lines < 2 ^ 62 }
-    ensures { (line : List ℕ) → is_long line ≡ true → Hears serving.now line serving.now result }
+    ensures long { (line : List ℕ) → Heard Long serving.now line serving.now result }
+    ensures hears { (line : List ℕ) → is_long line ≡ true → Hears serving.now line serving.now result }
 {
     next_fault(
         serving.lines,

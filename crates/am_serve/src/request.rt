@@ -1,6 +1,7 @@
 //! What a line is to a session.
 
-ghost use Rattle.std.specs.Prelude.{◌≡◌, option_map, result_ok, Some};
+ghost use Rattle.std.specs.Prelude.{◌≡◌, option_map, Some};
+ghost use Rattle.std.specs.Result.{result_ok};
 ghost use Rattle.am_lines.specs.{words_of};
 ghost use Rattle.am_serve.specs.Requests.{alone, asks_by, is_marked, kind_by, kind_of_mount, number_alone, question_by, request_by, request_in, request_of, reset_by, world_asked};
 ghost use Rattle.am_names.specs.Path.{path_read};
