@@ -103,7 +103,7 @@ serve_help =
     ++ (codes "  -h, --help  write this\n\n"
     ++ (codes "Exit status: 0 the input came to its end; 1 a fault of a stream, told on\n"
     ++ (codes "standard error with its line.\n"
-    ++ codes "Example: echo '!reset' | automount_cli serve\n")))))))))))))))
+    ++ codes "Example: echo '!reset' | automount_cli serve\n"))))))))))))))))
 
 -- what help says of the command `judge`
 abbrev pub judge_help : List ℕ
