@@ -386,6 +386,13 @@ def words_of(line):
     return [it for it in re.split(rb"[ \t]+", line) if it]
 
 
+# What is asked of a session, well and badly, that changes nothing; nothing was saved.
+ASKED = (b"?", b"??", b"?x", b"?trace", b"?trace 1", b"?world 0", b"?world 7", b"?world x", b"?world 0 0", b"?next", b"?next 0", b"?next 1",
+         b"?next 4294967296", b"?waiting", b"?waiting x", b"?waiting 7", b"?lawful", b"?lawful 1", b"?kind", b"?kind 0", b"?kind 0 /",
+         b"?kind 9 /", b"?kind 0 a", b"?kind 0 /a/../b", b"?kind 4294967296 /", b"?kind 0 /" + b"x" * 256, b"?kind 0 /" + b"/x" * 5000,
+         b"!", b"!!", b"!x", b"!back", b"!back 1", b"!reset 1", b"!save 1", b"?\0", b"?world\r")
+
+
 class Served:
     """What a session makes of the lines of a script, and what is wrong with it."""
 
@@ -409,9 +416,19 @@ class Served:
     def asked(self):
         return self.session.ask(b"?world"), self.session.ask(b"?trace")
 
+    def ask(self, line):
+        """Asks something that changes nothing; returns what is wrong, if anything is."""
+        before = self.asked()
+        reply = self.session.ask(line)
+        if reply.startswith(b"fault ") and not REPLY_FAULT.fullmatch(reply):
+            return f"a reply {reply!r} to {line[:80]!r}"
+        return None if self.asked() == before else f"another world behind {line[:80]!r}"
+
     def take(self, line):
         """Takes a line; returns what is wrong, if anything is."""
         was_playing = self.playing
+        # A session takes it for a question or a command, and a script for an event.
+        self.is_odd |= was_playing and words_of(line)[:1] != [] and words_of(line)[0][:1] in (b"?", b"!")
         before = self.asked() if was_playing else None
         reply = self.session.ask(line)
         told = REPLY_FAULT.fullmatch(reply)
@@ -435,8 +452,11 @@ def serve(program, seed):
     lines = text.split(b"\n")
     session = Session(program)
     served = Served(session)
+    by = random.Random(seed)
     for line in lines if lines[-1] else lines[:-1]:
         wrong = served.take(line)
+        if not wrong and served.playing and by.random() < 0.1:
+            wrong = served.ask(by.choice(ASKED))
         if wrong:
             session.child.kill()
             return seed, served.faults, wrong[:300]

@@ -8,7 +8,7 @@ is said.)
 
 The events come through a pipe, as from a program that drives `automount_cli script`, and the answers go to a
 pipe that is read and compared with those that must come. Each row tells the processor time of the program, the
-events in a second of it, and the most memory that it held. With `library` the events are asked one by one of a
+events in a second of it, and the most memory that it held; where that is more than 40 MB it ends with status 1. With `library` the events are asked one by one of a
 `World` of the Python module, in a process of its own each time, whose memory is told.
 """
 
@@ -26,6 +26,8 @@ import generate  # noqa: E402
 PROGRAM = os.environ.get("BENCH_PROGRAM", HERE + "/../crates/automount_cli/out/automount_cli")
 LIBRARY = HERE + "/../out/library"
 COUNTS = (100_000, 1_000_000, 10_000_000)
+# How much memory the program may take, in MB, however many events there are.
+MOST = 40
 # So many lives are written at once.
 BLOCK = 1_000
 
@@ -119,7 +121,11 @@ def main(words):
     print("| ---: | ---: | ---: | ---: |")
     for events in [int(it) for it in counts] or COUNTS:
         if not of_library:
-            row(*measured(events))
+            found = measured(events)
+            row(*found)
+            if found[2] > MOST:
+                print(f"longlived: it took more than {MOST} MB", file=sys.stderr)
+                return 1
         elif os.fork() == 0:
             ask_all(events)
             os._exit(0)

@@ -303,7 +303,7 @@ def replies_to(program, given):
 def cut(program, scale):
     given = b"".join(map(text, head())) + b"".join(text(event) for event, _ in lives(17)) + b"walk\n?trace\n!reset\n"
     whole, cpu = replies_to(program, given)
-    begun, count = time.perf_counter(), 0
+    base, begun, count, memory = least(program), time.perf_counter(), 0, 0.0
     for at in range(0, len(given), min(scale, 20)):
         wrote, used = replies_to(program, given[:at])
         ended = given[:at].count(b"\n")
@@ -317,12 +317,14 @@ def cut(program, scale):
             session.send(given[:at])
             session.takes(b"".join(it + DOT for it in parts[:ended]))
             session.send(given[at:])
+            memory = max(memory, session.memory())
             session.to.close()
             if b"".join(it + DOT for it in parts[:ended]) + session.rest + b"".join(iter(session.take, b"")) != whole:
                 raise Wrong(f"the input halts behind {at} bytes: other replies")
             session.reap()
             cpu, count = cpu + session.cpu, count + 2
-    row("inputs that end or halt behind a byte", count, begun, cpu, 0.0)
+    row("inputs that end or halt behind a byte", count, begun, cpu, memory)
+    within(memory, base, "inputs that are cut")
 
 
 def rubbish(program, scale):
@@ -372,7 +374,7 @@ def throws(session, made, sent):
 
 
 def gone(program, scale):
-    times, begun, cpu, memory = 100 // min(scale, 10), time.perf_counter(), 0.0, 0.0
+    times, base, begun, cpu, memory = 100 // min(scale, 10), least(program), time.perf_counter(), 0.0, 0.0
     source = random.Random(2)
     for at in range(times):
         with Served(program) as session:
@@ -381,6 +383,7 @@ def gone(program, scale):
             writer = Beside(lambda session=session: writes_on(session))
             for _, answer in lives(read):
                 session.takes(replied(answer))
+            memory = max(memory, session.memory())
             session.child.stdout.close()
             said = session.reap(1, GONE.pattern)
             if int(GONE.fullmatch(said)[1]) <= len(head()) + read:
@@ -393,11 +396,13 @@ def gone(program, scale):
                 session.send(text(event))
                 session.takes(replied(answer))
             session.send(b"wa")
+            memory = max(memory, session.memory())
             session.to.close()
             session.takes(b"fault %d:1 BadEvent expected the word of an event\n.\n" % (len(head()) + at + 2))
             session.reap()
             cpu += session.cpu
     row("readers and writers that go away", 2 * times, begun, cpu, memory)
+    within(memory, base, "readers and writers that go away")
 
 
 def writes_on(session):

@@ -1,6 +1,6 @@
 /* Loaded before a program's own libraries (LD_PRELOAD), makes its REFUSE-th call of malloc or
-   realloc fail, and says at its end how many calls there were and whether one was refused. A
-   program with threads ends by _exit, where no destructor runs. It is built without the C library's
+   realloc fail, and with REFUSE_COUNT as many in turn, and says at its end how many calls there were and how
+   many were refused. A program with threads ends by _exit, where no destructor runs. It is built without the C library's
    headers, which a machine with the toolchain may lack. */
 
 typedef unsigned long size_t;
@@ -15,18 +15,22 @@ long atol(const char *text);
 int dprintf(int file, const char *form, ...);
 long syscall(long number, ...);
 
-static long calls, chosen = -1;
-static int refused;
+static long calls, refused, chosen = -1, count;
+
+static long number_of(const char *name, long other) {
+    const char *word = getenv(name);
+    return word ? atol(word) : other;
+}
 
 static int is_refused(void) {
     if (chosen == -1) {
-        const char *word = getenv("REFUSE");
-        chosen = word ? atol(word) : 0;
+        count = number_of("REFUSE_COUNT", 1);
+        chosen = number_of("REFUSE", 0);
     }
-    calls++;
-    if (chosen == 0 || calls != chosen)
+    long call = __atomic_add_fetch(&calls, 1, __ATOMIC_SEQ_CST);
+    if (chosen == 0 || call < chosen || call >= chosen + count)
         return 0;
-    refused = 1;
+    __atomic_add_fetch(&refused, 1, __ATOMIC_SEQ_CST);
     *__errno_location() = ENOMEM;
     return 1;
 }
@@ -50,7 +54,7 @@ __attribute__((destructor)) static void say(void) {
     if (said)
         return;
     said = 1;
-    dprintf(2, "calls=%ld refused=%d\n", calls, refused);
+    dprintf(2, "calls=%ld refused=%ld\n", calls, refused);
 }
 
 void _exit(int status) {

@@ -3,15 +3,17 @@
 
 usage: tools/serve.py
 
-- each script of `tests` and `examples` is served: its answers are those of `script`, each line is answered by a line
-  that is just a dot, and where it ends in a fault that is told with the same line, word and place;
+- each script of `tests` and `examples`, and each of the files of cases there, is served: its answers are those of
+  `script`, each line is answered by a line that is just a dot, and where it ends in a fault that is told with the same
+  line, word and place;
 - each example is served line by line: what `?trace` tells of each event is what its trace has, and `?world` what
-  `world` has;
+  `world` has, also of one namespace;
 - behind lines that are faulty, cut, full of zero bytes or too long the world is as it was, and the session goes on;
 - questions, commands, heads that begin anew, and lines that come in pieces, or together;
 - a reader that fails, a writer that takes no more, and inputs of 64 MiB;
-- the examples of docs/USING.md in Python and in C print what they say, and so do they over a socket, where socat is
-  there.
+- the examples of docs/USING.md in Python and in C print what they say; and by each of its commands for a socket, where
+  socat or systemd-socket-activate is there, two sessions are served at one time, one that takes too much memory is told
+  so, and one that takes too long ends beside one that goes on.
 
 The program is the proved one, or else one that is built without proof. The last line counts the checks.
 """
@@ -26,6 +28,10 @@ import subprocess
 import sys
 import tempfile
 import time
+
+sys.dont_write_bytecode = True
+
+import scripts
 
 PATIENCE = 60
 HEAD = b"master\n/auto auto.home\nend\nmap auto.home\nhome srv:/home\nend\nevents\n"
@@ -154,6 +160,20 @@ def is_served_as_script(program, text):
     return told[:2] == replied[:2] and (told[2:] == replied[2:] or told[2] is None)
 
 
+def are_cases_served(program, path):
+    """The same of each script of a file of cases; of a case named `each line` each line is one. A line that is too long ends
+    a script in the order of its head, and is answered at once in a session: it is looked at by itself (`TALKS`)."""
+    file = scripts.Cases(path)
+    for case in file.cases:
+        texts = [it for it in case.text.split("\n") if it] if case.name == "each line" else [case.text]
+        for text in texts:
+            script = scripts.decoded(file.head) + scripts.decoded(text)
+            if all(len(it) <= LONGEST for it in lines_of(script)) and not is_served_as_script(program, script):
+                print(f"{path}: {case.name}: {text[:200]!r}")
+                return False
+    return True
+
+
 def is_shown(program, path):
     """Whether a session tells what is seen of each event of an example, and its world."""
     name = path.removesuffix(".script")
@@ -165,7 +185,15 @@ def is_shown(program, path):
                 seen.append(session.ask(b"?trace"))
         if session.ask(b"?lawful") != b"yes\n" or seen != traced:
             return False
+        if not all(is_told_of(program, text_of(path), session, number) for number in range(3)):
+            return False
         return session.ask(b"?world") == text_of(name + ".world") and session.end()
+
+
+def is_told_of(program, script, session, number):
+    """Whether a session tells of a namespace what `world --namespace` does, or that there is none."""
+    told, reply = ran(program, ["world", "--namespace", str(number)], script), session.ask(b"?world %d" % number)
+    return reply == told.stdout if told.returncode == 0 else re.fullmatch(rb"fault \d+ NoSuchNamespace\n", reply) is not None
 
 
 # ---- lines that nobody expects
@@ -408,37 +436,115 @@ def c_example(compiler, room):
     return prints_its_answers([built], room)
 
 
-def over_a_socket(room):
-    """Two sessions at one time over a socket, by the command of the page."""
-    where = os.path.join(room, "socket")
-    command = block("sh").split("\n")[0].replace("/tmp/automount", where)
-    path = os.path.join(room, "bin") + os.pathsep + os.environ["PATH"]
-    child = subprocess.Popen(["sh", "-c", "exec " + command], env={**os.environ, "PATH": path})
-    try:
+def socket_commands():
+    """The commands of the page that serve a socket."""
+    return [it for it in block("sh").split("\n") if it]
+
+
+class Listener:
+    """What serves a socket by a command of the page, with other limits where some are given."""
+
+    def __init__(self, command, room, memory=None, seconds=None):
+        self.where = os.path.join(room, f"socket.{os.urandom(4).hex()}")
+        command = command.replace("/tmp/automount", self.where)
+        if memory:
+            command = re.sub(r"--as=\d+", f"--as={memory}", command)
+        if seconds:
+            command = re.sub(r"--cpu=\d+", f"--cpu={seconds}", command)
+        path = os.path.join(room, "bin") + os.pathsep + os.environ["PATH"]
+        self.child = subprocess.Popen(["sh", "-c", "exec " + command], env={**os.environ, "PATH": path}, stderr=subprocess.DEVNULL)
+
+    def __enter__(self):
         for _ in range(100):
-            if os.path.exists(where):
+            if os.path.exists(self.where):
                 break
             time.sleep(0.05)
-        ends = [socket.socket(socket.AF_UNIX) for _ in range(2)]
+        return self
+
+    def __exit__(self, *_):
+        self.child.terminate()
+        self.child.wait()
+
+    def connected(self):
+        end = socket.socket(socket.AF_UNIX)
+        end.settimeout(PATIENCE)
+        end.connect(self.where)
+        return end
+
+
+def replies_of(end, count):
+    """What comes over a socket, to so many lines that are just a dot."""
+    wrote = b""
+    while len(re.findall(rb"^\.$", wrote, re.M)) < count:
+        more = end.recv(65536)
+        if not more:
+            raise Silence
+        wrote += more
+    return wrote
+
+
+def sent_until_closed(end, piece, most):
+    """Sends a piece over and over, at most so many bytes, and takes what comes; whether the other end was closed before."""
+    end.setblocking(False)
+    sent, rest = 0, b""
+    while sent < most:
+        readable, writable, _ = select.select([end], [end], [], PATIENCE)
+        try:
+            if readable and not end.recv(1 << 20):
+                return True
+            if writable:
+                rest = rest or piece
+                count = end.send(rest)
+                sent, rest = sent + count, rest[count:]
+        except (BrokenPipeError, ConnectionResetError):
+            return True
+        if not readable and not writable:
+            return False
+    return False
+
+
+def over_a_socket(command, room):
+    """Two sessions at one time."""
+    with Listener(command, room) as listener:
+        ends = [listener.connected() for _ in range(2)]
         for end in ends:
-            end.settimeout(PATIENCE)
-            end.connect(where)
             end.sendall(b"events\nmount 0 /a\n")
-        wrote = [b"", b""]
-        for at, end in enumerate(ends):
-            while wrote[at].count(b".\n") < 2:
-                wrote[at] += end.recv(4096)
+        wrote = [replies_of(end, 2) for end in ends]
+        for end in ends:
             end.close()
         return wrote == [b".\nmount 2\n.\n"] * 2
-    finally:
-        child.terminate()
-        child.wait()
+
+
+def memory_is_bounded(command, room):
+    """A session that takes too much memory is told so, and goes on."""
+    with Listener(command, room, memory=24 * MEBIBYTE) as listener, listener.connected() as end:
+        end.sendall(b"map m\n")
+        replies_of(end, 1)
+        is_told = False
+        for _ in range(8192):
+            end.sendall(b"#" * 8191 + b"\n")
+            is_told |= b" NoMemory\n" in replies_of(end, 1)
+        end.sendall(b"end\n!reset\nevents\nkind 0 /\n")
+        return is_told and replies_of(end, 4).endswith(b"kind private\n.\n")
+
+
+def time_is_bounded(command, room):
+    """A session that takes too long ends, and one beside it goes on."""
+    with Listener(command, room, seconds=1) as listener, listener.connected() as busy, listener.connected() as quiet:
+        quiet.sendall(b"events\nmount 0 /a\n")
+        replies_of(quiet, 2)
+        if not sent_until_closed(busy, b"events\n" + b"kind 0 /\n" * 4096, 4096 * MEBIBYTE):
+            return False
+        quiet.sendall(b"kind 0 /a\n")
+        return replies_of(quiet, 1) == b"kind private\n.\n"
 
 
 def checks(program, room):
     """Each check, by its name."""
     for path in sorted(glob.glob("tests/*.script") + glob.glob("examples/*.script")):
         yield f"{path}, served", lambda path=path: is_served_as_script(program, text_of(path))
+    for path in sorted(glob.glob("tests/*.cases")):
+        yield f"{path}, served", lambda path=path: are_cases_served(program, path)
     for path in sorted(glob.glob("examples/*.script")):
         yield f"{path}, what is asked behind each event", lambda path=path: is_shown(program, path)
     for line in HOSTILE:
@@ -473,10 +579,15 @@ def checks(program, room):
         yield "the example in C", lambda: c_example(compiler, room)
     if "quick" in os.path.basename(program):
         print("nor over a socket, where it has little too")
-    elif shutil.which("socat") is None:
-        print("socat isn't there: no session is served over a socket")
-    else:
-        yield "sessions over a socket", lambda: over_a_socket(room)
+        return
+    for command in socket_commands():
+        tool = command.split()[0]
+        if shutil.which(tool) is None:
+            print(f"{tool} isn't there: it serves no session over a socket")
+            continue
+        yield f"sessions by {tool}", lambda command=command: over_a_socket(command, room)
+        yield f"the memory of a session by {tool}", lambda command=command: memory_is_bounded(command, room)
+        yield f"the time of a session by {tool}", lambda command=command: time_is_bounded(command, room)
 
 
 def main():

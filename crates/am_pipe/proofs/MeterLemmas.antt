@@ -1,12 +1,12 @@
 -- Each step on the numbers of a pipe keeps their rule.
-use Rattle.std.proofs.Common.{◌≡◌, ◌≢◌, ◌<◌, ℕ, zero, suc, ◌+◌, ◌^◌, ◌%◌, List, [], ◌∷◌, ◌++◌, length, set, refl, sym, ap, ◌∙◌}
+use Rattle.std.proofs.Common.{◌≡◌, ◌≢◌, ◌<◌, ℕ, zero, suc, ◌+◌, ◌^◌, ◌%◌, List, [], ◌∷◌, length, refl, ap, ◌∙◌}
 use Rattle.std.proofs.Common.{arith}
 use Rattle.std.proofs.Math.Nat.{mod-add-mod}
 use Rattle.std.specs.Prelude.{slice_index, slice_set}
 use mathlib.Core.Option.{Option, some}
 use lib.ListN.{get_elem?}
 use Rattle.atomic_table.specs.Table.{State, Me, Allows, Arrives, Splits, opening, keeps}
-use Rattle.am_pipe.specs.{MeterView, IsMeter, asked, ended, freed_one, fresh_view, looked, put_one, told, total}
+use Rattle.am_pipe.specs.{MeterView, IsMeter, freed_one, fresh_view, put_one, total}
 use Rattle.am_pipe.proofs.CountLemmas.{total_set, total_snoc}
 
 abbrev took_of : MeterView → ℕ
@@ -14,6 +14,10 @@ took_of v = v.took
 
 abbrev put_of : MeterView → ℕ
 put_of v = v.put
+
+-- the word of a step is the one that is meant
+abbrev Is : ℕ → ℕ → Type 0
+Is word meant = word ≡ meant
 
 -- a number that is written is there
 set_there : (ws : List ℕ) (i n : ℕ) → i < length ws → slice_index (slice_set ws i n) i ≡ n
@@ -58,56 +62,25 @@ module _ {S : Type 0} where
         ∙ ap (λ n. n % 2 ^ 64) (let t = total_set put_of s.views id v w at in omega (arith, t, put));
   }
 
-  pub reads : (slots id : ℕ) (me : Me S MeterView)
-      → Allows IsMeter slots id me 0 (λ n. n) (λ n me'. me'.0 ≡ looked me.0 n)
-  reads slots id me s h len at small =
-      let n = slice_index s.words 0 in (
-        looked me.0 n,
+  -- a read of the number that is meant, of which the view learns what it doesn't count
+  pub reads : (learn : MeterView → ℕ → MeterView)
+      → ((v : MeterView) (n : ℕ) → (learn v n).took ≡ v.took)
+      → ((v : MeterView) (n : ℕ) → (learn v n).put ≡ v.put)
+      → (word meant slots id : ℕ) (me : Me S MeterView) → word ≡ meant
+      → Allows IsMeter slots id me word (λ n. n) (λ n me'. (word ≡ meant) × (me'.0 ≡ learn me.0 n))
+  reads learn took put word meant slots id me is s h len at small =
+      let n = slice_index s.words word in (
+        learn me.0 n,
         keeps,
         tt,
-        looks_on s id me.0 (looked me.0 n) (slice_set s.words 0 n) s.homes h at refl refl
-            (set_wide s.words 0 n) (set_same s.words 0 0) (set_same s.words 0 2),
-        refl,
-      )
-
-  pub asks : (slots id : ℕ) (me : Me S MeterView)
-      → Allows IsMeter slots id me 2 (λ n. n) (λ n me'. me'.0 ≡ asked me.0 n)
-  asks slots id me s h len at small =
-      let n = slice_index s.words 2 in (
-        asked me.0 n,
-        keeps,
-        tt,
-        looks_on s id me.0 (asked me.0 n) (slice_set s.words 2 n) s.homes h at refl refl
-            (set_wide s.words 2 n) (set_same s.words 2 0) (set_same s.words 2 2),
-        refl,
-      )
-
-  pub tells : (slots id : ℕ) (me : Me S MeterView)
-      → Allows IsMeter slots id me 0 (λ n. n) (λ n me'. me'.0 ≡ told me.0 n)
-  tells slots id me s h len at small =
-      let n = slice_index s.words 0 in (
-        told me.0 n,
-        keeps,
-        tt,
-        looks_on s id me.0 (told me.0 n) (slice_set s.words 0 n) s.homes h at refl refl
-            (set_wide s.words 0 n) (set_same s.words 0 0) (set_same s.words 0 2),
-        refl,
-      )
-
-  pub ends : (slots id : ℕ) (me : Me S MeterView)
-      → Allows IsMeter slots id me 1 (λ n. n) (λ n me'. me'.0 ≡ ended me.0 n)
-  ends slots id me s h len at small =
-      let n = slice_index s.words 1 in (
-        ended me.0 n,
-        keeps,
-        tt,
-        looks_on s id me.0 (ended me.0 n) (slice_set s.words 1 n) s.homes h at refl refl
-            (set_wide s.words 1 n) (set_same s.words 1 0) (set_same s.words 1 2),
-        refl,
+        looks_on s id me.0 (learn me.0 n) (slice_set s.words word n) s.homes h at (took me.0 n)
+            (put me.0 n) (set_wide s.words word n) (set_same s.words word 0)
+            (set_same s.words word 2),
+        (is, refl),
       )
 
   pub counts : (slots id : ℕ) (me : Me S MeterView)
-      → Allows IsMeter slots id me 0 (λ n. (n + 1) % 2 ^ 64) (λ n me'. me'.0 ≡ freed_one me.0)
+      → Allows IsMeter slots id me 0 (λ n. (n + 1) % 2 ^ 64) (λ n me'. Is 0 0 × (me'.0 ≡ freed_one me.0))
   counts slots id me s h len at small =
       let n = slice_index s.words 0 in
       let w = freed_one me.0 in
@@ -126,11 +99,11 @@ module _ {S : Type 0} where
               ∙ ap (λ (k : ℕ). k % 2 ^ 64)
               (let t = total_set put_of s.views id me.0 w at in omega (arith, t));
         },
-        refl,
+        (refl, refl),
       )
 
   pub gives : (slots id : ℕ) (me : Me S MeterView)
-      → Allows IsMeter slots id me 2 (λ n. (n + 1) % 2 ^ 64) (λ n me'. me'.0 ≡ put_one me.0)
+      → Allows IsMeter slots id me 2 (λ n. (n + 1) % 2 ^ 64) (λ n me'. Is 2 2 × (me'.0 ≡ put_one me.0))
   gives slots id me s h len at small =
       let n = slice_index s.words 2 in
       let w = put_one me.0 in
@@ -149,24 +122,26 @@ module _ {S : Type 0} where
               ∙ ap (λ (k : ℕ). k % 2 ^ 64)
               (let t = total_set put_of s.views id me.0 w at in omega (arith, t));
         },
-        refl,
+        (refl, refl),
       )
 
-  pub closes : (slots : ℕ) → Arrives {S = S} IsMeter slots 1 (λ _. 1) (λ n me'. Unit {0})
-  closes slots s h len small = (
+  -- a new seat writes 1 as the second number
+  pub closes : (word new slots : ℕ) → word ≡ 1 → new ≡ 1
+      → Arrives {S = S} IsMeter slots word (λ _. new) (λ n me'. (word ≡ 1) × (new ≡ 1))
+  closes word new slots is one s h len small = (
     fresh_view,
     keeps,
     tt,
     record {
-      wide = set_wide s.words 1 1 ∙ h.wide;
-      counted = set_other s.words 1 0 1 (λ e. omega arith) ∙ h.counted
+      wide = set_wide s.words word new ∙ h.wide;
+      counted = set_other s.words word 0 new (λ e. omega (arith, e, is)) ∙ h.counted
           ∙ ap (λ n. n % 2 ^ 64)
           (let t = total_snoc took_of s.views fresh_view in omega (arith, t));
-      given = set_other s.words 1 2 1 (λ e. omega arith) ∙ h.given
+      given = set_other s.words word 2 new (λ e. omega (arith, e, is)) ∙ h.given
           ∙ ap (λ n. n % 2 ^ 64)
           (let t = total_snoc put_of s.views fresh_view in omega (arith, t));
     },
-    tt,
+    (is, one),
   )
 
   pub splits : (id : ℕ) (v : MeterView) → Splits {S = S} IsMeter id v v fresh_view

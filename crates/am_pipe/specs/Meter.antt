@@ -1,6 +1,6 @@
 -- The numbers of a pipe that its ends share: own choice (docs/DECISIONS.md, "A refused put has
 -- read the number of takes").
-use Rattle.std.specs.Prelude.{◌≡◌, ℕ, ◌+◌, ◌^◌, ◌%◌, ◌==◌, ◌||◌, Bool, false, length, slice_index}
+use Rattle.std.specs.Prelude.{◌≡◌, ℕ, ◌+◌, ◌^◌, ◌%◌, ◌==◌, ◌||◌, false, length, slice_index}
 use Rattle.atomic_table.specs.Table.{State}
 use Rattle.atomic_table.specs.declared.shared.Seat.{Seat}
 use Rattle.am_pipe.specs.declared.meter.MeterView.{MeterView}

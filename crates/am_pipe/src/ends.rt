@@ -18,6 +18,7 @@ use crossbeam_queue::Pass;
 use std::alloc::{AllocError, Global};
 use std::marker::Model;
 use std::sync::{Arc, Wait};
+use std::thread;
 
 /// The end into which the kernel puts notes. A contract sees its pipe, for how many notes the pipe
 /// has room, how many take ends it has, the notes that were put, in order, how often this end read
@@ -218,6 +219,7 @@ impl TakeEnd {
             if self.is_drained() {
                 return None;
             }
+            thread::yield_now();
         }
         unreachable!()
     }

@@ -46,71 +46,71 @@ impl Split<MeterView> for Seats {
     ghost right = { λ v. fresh_view };
 }
 
-/// The put end reads how many takes are over.
+/// The put end reads the first number: how many takes are over.
 pub struct ReadsCount;
 
 impl Play<(), MeterView> for ReadsCount {
     ghost use Rattle.std.specs.Prelude.{◌≡◌};
     ghost use Rattle.am_pipe.specs.Meter.{looked};
 
-    ghost then = { λ st me n me'. me'.0 ≡ looked me.0 n };
+    ghost then = { λ st me n me'. (st.word ≡ 0) × (me'.0 ≡ looked me.0 n) };
 }
 
-/// A take end counts a take.
+/// A take end counts a take, on the first number.
 pub struct CountsTake;
 
 impl Play<(), MeterView> for CountsTake {
     ghost use Rattle.std.specs.Prelude.{◌≡◌};
     ghost use Rattle.am_pipe.specs.Meter.{freed_one};
 
-    ghost then = { λ st me n me'. me'.0 ≡ freed_one me.0 };
+    ghost then = { λ st me n me'. (st.word ≡ 0) × (me'.0 ≡ freed_one me.0) };
 }
 
-/// The put end counts a put.
+/// The put end counts a put, on the third number.
 pub struct CountsPut;
 
 impl Play<(), MeterView> for CountsPut {
     ghost use Rattle.std.specs.Prelude.{◌≡◌};
     ghost use Rattle.am_pipe.specs.Meter.{put_one};
 
-    ghost then = { λ st me n me'. me'.0 ≡ put_one me.0 };
+    ghost then = { λ st me n me'. (st.word ≡ 2) × (me'.0 ≡ put_one me.0) };
 }
 
-/// A take end reads how many puts are over, and of takes it has read none yet then.
+/// A take end reads the third number: how many puts are over. Of takes it has read none yet then.
 pub struct ReadsPuts;
 
 impl Play<(), MeterView> for ReadsPuts {
     ghost use Rattle.std.specs.Prelude.{◌≡◌};
     ghost use Rattle.am_pipe.specs.Meter.{asked};
 
-    ghost then = { λ st me n me'. me'.0 ≡ asked me.0 n };
+    ghost then = { λ st me n me'. (st.word ≡ 2) × (me'.0 ≡ asked me.0 n) };
 }
 
-/// Then it reads how many takes are over.
+/// Then it reads the first number: how many takes are over.
 pub struct ReadsTakes;
 
 impl Play<(), MeterView> for ReadsTakes {
     ghost use Rattle.std.specs.Prelude.{◌≡◌};
     ghost use Rattle.am_pipe.specs.Meter.{told};
 
-    ghost then = { λ st me n me'. me'.0 ≡ told me.0 n };
+    ghost then = { λ st me n me'. (st.word ≡ 0) × (me'.0 ≡ told me.0 n) };
 }
 
-/// A take end reads whether the pipe is closed.
+/// A take end reads the second number: whether the pipe is closed.
 pub struct ReadsEnd;
 
 impl Play<(), MeterView> for ReadsEnd {
     ghost use Rattle.std.specs.Prelude.{◌≡◌};
     ghost use Rattle.am_pipe.specs.Meter.{ended};
 
-    ghost then = { λ st me n me'. me'.0 ≡ ended me.0 n };
+    ghost then = { λ st me n me'. (st.word ≡ 1) × (me'.0 ≡ ended me.0 n) };
 }
 
-/// The pipe is closed.
+/// The pipe is closed: the second number becomes 1.
 pub struct Closes;
 
 impl Play<(), MeterView> for Closes {
-    ghost use Rattle.std.specs.Prelude.{⊤};
+    ghost use Rattle.std.specs.Prelude.{◌≡◌};
 
-    ghost then = { λ st me n me'. ⊤ };
+    ghost then = { λ st me n me'. (st.word ≡ 1) × (st.first ≡ 1) };
 }

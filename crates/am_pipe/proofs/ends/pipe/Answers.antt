@@ -1,5 +1,5 @@
 use Rattle.std.proofs.Common.{◌≡◌, [], arith, ap, ◌∙◌, rules}
-use Rattle.am_pipe.specs.{MeterView, Taker, fresh_taker, fresh_view, known, read_by}
+use Rattle.am_pipe.specs.{Taker, fresh_taker, fresh_view, known, read_by}
 use Rattle.am_pipe.proofs.MeterLemmas.{opens, splits}
 use Rattle.am_pipe.proofs.MoveLemmas.{begins, forks}
 use Rattle.am_pipe.proofs.RestLemmas.{all_snoc}
