@@ -41,10 +41,12 @@ COMMAND_LINES_THERE_ARE = b"""usage: automount_cli script|serve|judge|import < F
 """
 # The lines and columns of a screen.
 SCREEN = (24, 80)
-# What a process may have of memory, in bytes.
-LITTLE = 64 << 20
-# How often threads run with so little.
-TIMES = 20
+# How many rounds threads make with so many MiB of memory, and how often: of 1,000 it runs out in the midst.
+LITTLES = (50, 64, 20), (1000, 24, 8), (1000, 20, 8)
+# What the stack of a thread takes of it in bytes, so that all threads begin.
+STACK = 1 << 18
+# For how many allocations in turn a thread finds no memory: more than the tries of one call.
+STRETCH = 20_000
 
 TWO_EVENTS = b"events\nmount 0 /a<b\nleave 1\n"
 # Behind it stand two namespaces, an open token with a waiter, its packet, and a walker inside of a mount. The event on
@@ -493,7 +495,8 @@ def refuses_each(program, refuse, words, given, is_well):
 # A session, each of whose allocations is refused.
 SESSION = (b"master", b"/auto m", b"end", b"map m", b"home srv:/home", b"end", b"events", b"attach /auto", b"walk 7 0 /auto/home 5 room",
            b"?world", b"?waiting 7", b"deliver 1", b"?next 1", b"act 1 ok", b"!save", b"act 1 ok", b"!back", b"act 1 ok", b"?trace",
-           b"nscopy 0", b"?world 1", b"?kind 1 /auto", b"?lawful", b"!reset", b"events", b"mount 0 /a")
+           b"nscopy 0", b"?world 1", b"?kind 1 /auto", b"?lawful", b"bind 0 /a", b"?kind 0 a", b"!reset", b"master", b"/a a", b"b", b"end", b"events",
+           b"!reset", b"events", b"mount 0 /a")
 
 
 def served(program, lines):
@@ -505,8 +508,8 @@ def replies_of(wrote):
 
 
 def is_served_well(program):
-    """Tells of a session in which an allocation was refused whether all is as without that, or the reply to one line
-    tells that there was no memory and the others are as where that line isn't there."""
+    """Tells of a session in which an allocation was refused whether all is as without that, but for the place of a fault, or
+    the reply to one line tells that there was no memory and the others are as where that line isn't there."""
     whole = served(program, SESSION)
 
     def judge(ran):
@@ -520,11 +523,16 @@ def is_served_well(program):
         at = next((number for number, (one, other) in enumerate(zip(found, whole)) if one != other), None)
         if at is None:
             return True
+        if found[at] == re.sub(rb"^(fault \d+):\d+ (\w+) expected .*$", rb"\1 \2", whole[at]):
+            # There is none to find the place of a fault, which is told without it.
+            return found[at + 1:] == whole[at + 1:]
         if found[at] != b"err 10\n" and re.fullmatch(rb"fault \d+ NoMemory\n", found[at]) is None:
             return False
         if SESSION[at] == b"events":
             # Another head begins.
-            return all(it == b"" or b"NoWorld" in it or b"NotSaved" in it for it in found[at + 1:SESSION.index(b"!reset")])
+            others = zip(SESSION[at + 1:SESSION.index(b"!reset")], found[at + 1:])
+            return all(it == b"" or b"NoWorld" in it or b"NotSaved" in it or (line, it[-12:]) == (b"?kind 0 a", b"BadQuestion\n")
+                       for line, it in others)
         # An event that is refused was taken, as a line that is skipped is; a line with a fault, or a question, wasn't.
         instead = (b"#",) if found[at] == b"err 10\n" and SESSION[at][:1] != b"?" else ()
         others = served(program, SESSION[:at] + instead + SESSION[at + 1:])
@@ -566,13 +574,30 @@ def refusals(program, refuse):
             program, refuse, words, b"", is_refused_well([b""], [], [usage(it) for it in hints]))
 
 
-def with_little():
-    resource.setrlimit(resource.RLIMIT_AS, (LITTLE, LITTLE))
+def ends_with_little(program, rounds, memory):
+    """Of many rounds memory runs out in the midst."""
+    def limit():
+        resource.setrlimit(resource.RLIMIT_STACK, (STACK, STACK))
+        resource.setrlimit(resource.RLIMIT_AS, (memory, memory))
+
+    words = ["threads", "--walkers", "16", "--workers", "16", "--rounds", str(rounds)]
+    ends = (0, b"rounds %d\n" % (16 * rounds), b""), (1, b"", b"fault: NoMemory\n")
+    return program.run(words, b"", before=limit) in ends
 
 
-def ends_with_little(program):
-    words = ["threads", "--walkers", "16", "--workers", "16", "--rounds", "50"]
-    return program.run(words, b"", before=with_little) in ((0, b"rounds 800\n", b""), (1, b"", b"fault: NoMemory\n"))
+def ends_behind_a_stretch(program, refuse, number):
+    """Whether a run ends where there is no memory for a long while: who finds none gives up, and nobody waits for it."""
+    status, wrote, said = program.run(["threads", "--walkers", "2", "--workers", "1", "--rounds", "2"], b"", refuse, REFUSE=number,
+                                      REFUSE_COUNT=STRETCH)
+    said = said[:said.rindex(b"calls=")]
+    return (status, wrote, said) in ((0, b"rounds 4\n", b""), (1, b"", b"fault: NoMemory\n"))
+
+
+def each_ends_behind_a_stretch(program, refuse):
+    """The same from each third allocation on, up to those of a whole run."""
+    said = program.run(["threads", "--walkers", "2", "--workers", "1", "--rounds", "2"], b"", refuse, REFUSE=0)[2]
+    calls = int(re.search(rb"calls=(\d+)", said)[1])
+    return all(ends_behind_a_stretch(program, refuse, number) for number in range(1, calls, 3)) and calls
 
 
 def checks(program):
@@ -612,7 +637,10 @@ def checks(program):
             yield f"{command}: {most} bytes at once", lambda command=command, most=most: is_whole(program, little, command, most)
     for words, run in refusals(program, refuse):
         yield f"{' '.join(words)}: each allocation refused", run
-    yield f"threads: {TIMES} times with 64 MiB", lambda: all(ends_with_little(program) for _ in range(TIMES))
+    for rounds, memory, times in LITTLES:
+        yield f"threads, {rounds} rounds: {times} times with {memory} MiB", lambda rounds=rounds, memory=memory, times=times: all(
+            ends_with_little(program, rounds, memory << 20) for _ in range(times))
+    yield f"threads: {STRETCH} allocations in turn refused", lambda: each_ends_behind_a_stretch(program, refuse)
 
 
 def main():

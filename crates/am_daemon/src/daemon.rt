@@ -4,6 +4,7 @@ ghost use Rattle.std.specs.Prelude.{◌≡◌, IfOk};
 ghost use Rattle.am_job.specs.{record_of};
 ghost use Rattle.am_daemon.specs.State.{IsCopy, initial, rows_of};
 
+use crate::copies::{Mapped, Noted, copy_mapped, copy_noted};
 use crate::held::HeldTable;
 use crate::job_table::JobTable;
 use crate::known::KnownTable;
@@ -58,17 +59,6 @@ impl Model for Daemon {
     ghost view = { table_of };
 }
 
-/// The same maps once more.
-fn copies_of(alloc: Global, maps: &[Map]) -> Result<Vec<Map>, AllocError>
-    ensures { IfOk result (λ copies. copies.items ≡ maps.now) }
-{
-    let mut copies = Vec::with_capacity(alloc, maps.len())?;
-    for map in maps {
-        copies.push(map.copy()?)?;
-    }
-    Ok(copies)
-}
-
 impl Daemon {
     /// A daemon of a master map and the maps of its lines, in their order. Nothing is attached.
     pub fn new(alloc: Global, master: Master, maps: Vec<Map>) -> Daemon
@@ -88,13 +78,17 @@ impl Daemon {
     pub fn copy(&self, alloc: Global) -> Result<Daemon, AllocError>
         ensures { IfOk result (IsCopy self.now) }
     {
+        let noted = copy_noted(alloc, &self.known, &self.held, &self.book)?;
+        let mapped = copy_mapped(alloc, &self.master, self.maps.as_slice(), &self.jobs)?;
+        let Noted { known, held, book } = noted;
+        let Mapped { master, maps, jobs } = mapped;
         Ok(Daemon {
-            master: self.master.copy(alloc)?,
-            maps: copies_of(alloc, self.maps.as_slice())?,
-            known: self.known.copy(alloc)?,
-            held: self.held.copy(alloc)?,
-            book: self.book.copy(alloc)?,
-            jobs: self.jobs.copy(alloc)?,
+            master,
+            maps,
+            known,
+            held,
+            book,
+            jobs,
         })
     }
 

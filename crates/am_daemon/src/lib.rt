@@ -3,6 +3,7 @@
 
 pub mod acts;
 pub mod attachments;
+mod copies;
 pub mod daemon;
 pub mod deliveries;
 pub mod fault;

@@ -1,4 +1,5 @@
-//! Mountinfo of one or more namespaces, and a script that builds the same mounts.
+//! Mountinfo of one or more namespaces, and a script that builds the same mounts. Which events build mounts is a search,
+//! trusted in nothing: its script is played as it is written, and its world compared.
 #![tactic(auto)]
 
 mod firsts;

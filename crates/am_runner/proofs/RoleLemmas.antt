@@ -390,17 +390,16 @@ pub tried_given_up : (fs : ℕ) (x : ℕ × Note) (a b : List Receipt) → Makes
     → Makes (IsTried fs x) a b
 tried_given_up fs x a b = makes_as (IsGivenUp fs x) (IsTried fs x) a b (λ m is. inr is)
 
-pub gave_nothing : (fs : ℕ) (a b : List Receipt) → b ≡ a → Makes (GivesUp fs) a b
-gave_nothing fs a b is =
-    subst (λ (xs : List Receipt). Makes (GivesUp fs) a xs) (sym is)
-    (makes_none (GivesUp fs) a (inl refl))
+pub gave_up : (fs : ℕ) (reply : Reply) (a b : List Receipt) → Makes (IsCall (events.AdminCatatonic fs) reply) a b
+    → Makes (GivesUp fs) a b
+gave_up fs reply a b =
+    makes_as (IsCall (events.AdminCatatonic fs) reply) (GivesUp fs) a b (λ m is. inl (reply, is))
 
-pub gave_up : (fs : ℕ) (a b : List Receipt) (receipt : Receipt) → b ≡ a ++ receipt ∷ []
-    → receipt.event ≡ events.AdminCatatonic fs → Makes (GivesUp fs) a b
-gave_up fs a b receipt behind is = record {
-  made = receipt ∷ [];
-  behind = behind;
-  are = inr (receipt, refl, is);
+pub gave_in : (fs : ℕ) (a b : List Receipt) → Adds (RanOut (events.AdminCatatonic fs)) a b → Makes (GivesUp fs) a b
+gave_in fs a b adds = record {
+  made = adds.made;
+  behind = adds.behind;
+  are = inr adds.each;
 }
 
 pub broken_and_given_up : (fs : ℕ) (x : ℕ × Note) (a b c : List Receipt)

@@ -1,19 +1,21 @@
 -- Who takes part in a run, and what each of them makes: own choice (docs/DECISIONS.md, "A run says who
 -- takes part").
-use Rattle.std.specs.Prelude.{◌≡◌, ℕ, ◌+◌, ◌-◌, ◌%◌, List, [], ◌∷◌, ◌++◌, All, length, map, Some, Ok, if◌then◌else◌, nat_lt, slice_get}
+use Rattle.std.specs.Prelude.{◌≡◌, ℕ, Bool, true, false, ◌+◌, ◌-◌, ◌%◌, List, [], ◌∷◌, ◌++◌, All, length, map, Some, Ok, if◌then◌else◌, nat_lt, slice_get}
 use Rattle.std.specs.List.{AllZip}
 use Rattle.atomic_table.specs.Seated.{TableId}
 use Rattle.am_names.specs.{path_read}
 use Rattle.am_machine.specs.declared.event.Event.TheVariants.{Attach}
 use Rattle.am_machine.specs.declared.answer.Answer.TheVariants.{Attached}
 use Rattle.am_pipe.specs.{Taker}
-use Rattle.am_shared.specs.{Receipt}
+use Rattle.am_shared.specs.{Keep, Receipt}
+use Rattle.am_shared.specs.declared.keep.Keep.TheVariants as keeps
 use Rattle.am_runner.specs.declared.plan.Run.{Run}
 use Rattle.am_runner.specs.Calls.{AreMany, Makes}
 use Rattle.am_runner.specs.Roles.{AreEach, IsBreak, IsExpiry, IsRound, IsService, walk}
 
 -- how a run is laid out: the point of its autofs, the paths of its walkers, how many walkers there are, how
--- many rounds each of them makes, and who expires, how often the daemon dies, and how many notes its pipe has room for
+-- many rounds each of them makes, and who expires, how often the daemon dies, how many notes its pipe has room for, and
+-- whether all that is observed is kept
 pub record Plan : Type 0 where
   pub point : List ℕ
   pub paths : List (List ℕ)
@@ -21,6 +23,7 @@ pub record Plan : Type 0 where
   pub rounds : ℕ
   pub breaks : ℕ
   pub capacity : ℕ
+  pub watched : Bool
 
 -- how a run is laid out that is handed in so
 abbrev pub plan_of : Run → Plan
@@ -31,7 +34,13 @@ plan_of run = record {
   rounds = run.rounds;
   breaks = run.breaks;
   capacity = run.capacity;
+  watched = run.watched;
 }
+
+-- what the world of a run keeps; its workers read the history
+abbrev pub keep_of : Bool → Keep
+keep_of true = keeps.All
+keep_of false = keeps.Events
 
 -- the daemon was attached to this file system, at the point of the run, and nothing else was done
 pub record IsAttached (plan : Plan) (fs : ℕ) (made : List Receipt) : Type 0 where

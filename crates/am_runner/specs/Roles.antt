@@ -9,7 +9,8 @@ use Rattle.am_pipe.specs.{Note}
 use Rattle.am_shared.specs.{Receipt}
 use Rattle.am_runner.specs.declared.calls.Reply.{Reply}
 use Rattle.am_runner.specs.declared.calls.Reply.TheVariants as replies
-use Rattle.am_runner.specs.Calls.{AreMany, IsCall, IsOf, is_arrival, is_wait, job_of}
+use Rattle.am_runner.specs.Calls.{AreMany, IsCall, IsOf, RanOut, is_arrival, is_wait, job_of}
+use Rattle.am_trigger.specs.declared.autofs.Autofs.{Autofs}
 
 -- ---- walkers, and who expires
 
@@ -155,10 +156,16 @@ pub record IsBrokenOff (taken : ℕ × Note) (made : List Receipt) : Type 0 wher
   pub each : All (IsOf (delivery taken)) delivers
   pub acts : (works ≡ []) ⊎ AreActsBehind taken delivers works
 
--- who gives up has the file system made catatonic, if there is room for that
+-- nobody can wait at such a file system
+abbrev pub is_given_up : Option Autofs → Bool
+is_given_up None = true
+is_given_up (Some autofs) = autofs.catatonic
+
+-- Who gives up has the file system made catatonic: the event is made again where memory runs out, until it is answered,
+-- or until others have done so.
 abbrev pub GivesUp : ℕ → List Receipt → Type 0
 GivesUp fs made =
-    (made ≡ []) ⊎ ((receipt : Receipt) × (made ≡ receipt ∷ []) × IsOf (events.AdminCatatonic fs) receipt)
+    ((reply : Reply) × IsCall (events.AdminCatatonic fs) reply made) ⊎ All (RanOut (events.AdminCatatonic fs)) made
 
 -- a service that was broken off, and given up
 pub record IsGivenUp (fs : ℕ) (taken : ℕ × Note) (made : List Receipt) : Type 0 where

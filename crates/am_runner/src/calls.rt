@@ -1,13 +1,16 @@
 //! The calls of a thread, made again where memory runs out.
 
 ghost use Rattle.std.specs.Prelude.{◌≡◌, IfOk, OnErr};
+ghost use Rattle.am_machine.specs.declared.event.Event.TheVariants.{AdminCatatonic};
 ghost use Rattle.am_machine.specs.declared.answer.Answer.TheVariants.{Refused};
 ghost use Rattle.am_runner.specs.Calls.{Adds, IsCall, Makes, RanOut, is_arrival, is_done, is_wait};
 ghost use Rattle.am_runner.specs.Calls.{job_of, reply_of};
+ghost use Rattle.am_runner.specs.Roles.{GivesUp, is_given_up};
+ghost use Rattle.am_trigger.specs.{autofs_of};
 
 use am_machine::{Answer, Event};
-use am_names::{Errno, JobId};
-use am_shared::{Caller, Opened};
+use am_names::{Errno, FsId, JobId};
+use am_shared::{Caller, Opened, Shared};
 use std::alloc::{AllocError, Global};
 use std::sync::Wait;
 use std::thread;
@@ -125,4 +128,60 @@ pub fn call<L: Opened, R: Wait>(
         }
     }
     Err(AllocError)
+}
+
+/// Has a file system made catatonic, for which room was kept, unless memory runs out all the same.
+fn give_up_once<L: Opened, R: Wait>(
+    rt: &R,
+    alloc: Global,
+    caller: &mut Caller<L>,
+    fs: FsId,
+) -> Result<Reply, AllocError>
+    ensures ok { IfOk result
+        (λ reply. Makes (IsCall (AdminCatatonic fs) reply) caller.old caller.new) }
+    ensures err { OnErr result (Adds (RanOut (AdminCatatonic fs)) caller.old caller.new) }
+{
+    if caller.give_up(rt, alloc, fs).is_err() {
+        return Err(AllocError);
+    }
+    let Some(receipt) = caller.receipt() else {
+        unreachable!()
+    };
+    reply_to(&receipt.answer).ok_or(AllocError)
+}
+
+/// Whether nobody can wait at a file system: it is catatonic, or there is none.
+fn is_given_up(shared: &Shared, fs: FsId) -> bool
+    ensures { result ≡ is_given_up (autofs_of shared.now.world.kernel.triggers fs) }
+{
+    match shared.world().autofs(fs) {
+        Some(autofs) => autofs.catatonic,
+        None => true,
+    }
+}
+
+/// Whether others have given it up.
+fn is_given_up_by_others<L: Opened, R: Wait>(rt: &R, caller: &mut Caller<L>, fs: FsId) -> bool
+    ensures { caller.new ≡ caller.old }
+{
+    caller.look(rt, |shared: &Shared| is_given_up(shared, fs))
+}
+
+/// Gives up where memory is short: the file system becomes catatonic, so that nobody waits for what isn't done. Where
+/// there is no memory for that either it is tried again and again, until it is done or others have done it.
+pub fn give_up<L: Opened, R: Wait>(rt: &R, alloc: Global, caller: &mut Caller<L>, fs: FsId)
+    ensures { Makes (GivesUp fs) caller.old caller.new }
+{
+    for _ in rt.forever() {
+        match give_up_once(rt, alloc, caller, fs) {
+            Ok(_reply) => return,
+            Err(_) => {
+                if is_given_up_by_others(rt, caller, fs) {
+                    return;
+                }
+            }
+        }
+        thread::yield_now();
+    }
+    unreachable!()
 }

@@ -1,7 +1,8 @@
 //! What each who takes part in a run does in a thread, and what comes back from there. Of that a proof knows what its
 //! type says.
 
-ghost use Rattle.std.specs.Prelude.{◌≡◌, ℕ, [], IfSome};
+ghost use Rattle.std.specs.Prelude.{◌≡◌, ℕ, true, [], IfSome};
+ghost use Rattle.am_shared.specs.{keeps_events};
 ghost use Rattle.am_machine.specs.declared.answer.Answer.TheVariants as answers;
 ghost use Rattle.am_runner.specs.Parts.{IsAttached, IsBreaker, IsExpirer, IsWalker, IsWorker, plan_of};
 
@@ -282,6 +283,7 @@ pub fn serves<L: Planned, G: Gate, B: Backend + Drop, R: Wait>(
 ) -> Result<Served<L, B>, AllocError>
     requires none { caller ≡ [] }
     requires taker { (taker.pipe ≡ L.pipe) × (taker.got ≡ []) }
+    requires keep { keeps_events L.keep ≡ true }
 {
     let mut caller = caller;
     let mut taker = taker;

@@ -1,10 +1,11 @@
 //! How a run is laid out.
 
-ghost use Rattle.std.specs.Prelude.{◌≡◌, ◌-◌, ◌%◌, Some, IfSome, length, slice_get};
-ghost use Rattle.am_runner.specs.Parts.{WalksAlong, plan_of};
+ghost use Rattle.std.specs.Prelude.{◌≡◌, ◌-◌, ◌%◌, true, Some, IfSome, length, slice_get};
+ghost use Rattle.am_shared.specs.{keeps_events};
+ghost use Rattle.am_runner.specs.Parts.{WalksAlong, keep_of, plan_of};
 
 use am_names::AbsPath;
-use am_shared::Opened;
+use am_shared::{Keep, Opened};
 use std::marker::Brand;
 
 /// How large a run is, and where its walkers walk.
@@ -21,6 +22,8 @@ pub struct Run<'a> {
     pub breaks: u32,
     /// How many notes the pipe has room for.
     pub capacity: usize,
+    /// Whether all that is observed is kept, for who judges the world in the end.
+    pub watched: bool,
 }
 
 /// A shared world whose run is laid out so. Proofs alone speak of it: what comes back from a thread says by its type
@@ -32,9 +35,17 @@ pub trait Planned: Opened {
 }
 
 impl Planned for Brand {
-    ghost use Rattle.std.specs.Prelude.{[]};
+    ghost use Rattle.std.specs.Prelude.{[], false};
 
-    ghost plan = { record { point = []; paths = []; walkers = 0; rounds = 0; breaks = 0; capacity = 0 } };
+    ghost plan = { record { point = []; paths = []; walkers = 0; rounds = 0; breaks = 0; capacity = 0; watched = false } };
+}
+
+/// What the world of a run keeps: its workers read the history.
+pub fn keep_of(watched: bool) -> Keep
+    ensures keep { result ≡ keep_of watched }
+    ensures events { keeps_events result ≡ true }
+{
+    if watched { Keep::All } else { Keep::Events }
 }
 
 /// The text of a walker's path. Walker 1 has the first.

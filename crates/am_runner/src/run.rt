@@ -1,16 +1,16 @@
 //! A run of walkers, workers and an expirer.
 
-ghost use Rattle.std.specs.Prelude.{◌≡◌, ◌+◌, ◌<◌, ◌^◌, [], vec_len, All, IfOk};
+ghost use Rattle.std.specs.Prelude.{◌≡◌, ◌+◌, ◌<◌, ◌^◌, true, [], vec_len, All, IfOk};
 ghost use Rattle.std.specs.Fn.{FnOnceReturnsAt};
-ghost use Rattle.am_shared.specs.{opening_of};
+ghost use Rattle.am_shared.specs.{keeps_events, opening_of};
 ghost use Rattle.am_shared.specs.Sharing.{Sharing};
 ghost use Rattle.am_runner.specs.Parts.{AreWalkers, AreWorkers, IsBreaker, IsExpirer, TakePart};
-ghost use Rattle.am_runner.specs.Parts.{breakers, plan_of};
+ghost use Rattle.am_runner.specs.Parts.{breakers, keep_of, plan_of};
 ghost use Rattle.am_runner.specs.Runs.{IsRun};
 
 use crate::asking::{Asked, ask_all};
 use crate::parts::{Attached, Common, attach};
-use crate::plan::{Planned, Run};
+use crate::plan::{Planned, Run, keep_of};
 use crate::serving::{Back, Service, start_workers, workers_back};
 use crate::workers::{Backend, Gate};
 use am_pipe::{Closer, Note, PutEnd, gather as gather_notes, pipe};
@@ -121,6 +121,7 @@ fn all_back<
     requires breakers { crew.wanted.breakers ≡ breakers L.plan.breaks }
     requires takers { All (λ taker. (taker.pipe ≡ L.pipe) × (taker.got ≡ []))
         crew.service.takers.items }
+    requires keep { keeps_events L.keep ≡ true }
     ensures { IfOk result (λ back.
         TakePart L.plan L.pipe crew.wanted.workers back.takers.items back.callers.items) }
 {
@@ -178,6 +179,7 @@ fn all_in_scope<
     requires breakers { crew.wanted.breakers ≡ breakers L.plan.breaks }
     requires takers { All (λ taker. (taker.pipe ≡ L.pipe) × (taker.got ≡ []))
         crew.service.takers.items }
+    requires keep { keeps_events L.keep ≡ true }
     ensures { IfOk result (λ back.
         TakePart L.plan L.pipe crew.wanted.workers back.takers.items back.callers.items) }
 {
@@ -197,6 +199,7 @@ fn all_in_scope<
             requires breakers { crew.wanted.breakers ≡ breakers L.plan.breaks }
             requires takers { All (λ taker. (taker.pipe ≡ L.pipe) × (taker.got ≡ []))
                 crew.service.takers.items }
+            requires keep { keeps_events L.keep ≡ true }
             ensures { IfOk result (λ back.
                 TakePart L.plan L.pipe crew.wanted.workers back.takers.items back.callers.items) }
         { all_back(scope, rt, alloc, crew, common) },
@@ -204,7 +207,7 @@ fn all_in_scope<
 }
 
 /// Ends a run: gathers what lay under the lock, has it judged, and takes what is left in the pipe. Memory ran out too
-/// where not all callers and ends are back, of which there were so many.
+/// where not all callers, ends and backends are back, of which there were so many.
 fn end<L: Planned, B: Drop, T: Drop, F: FnOnce(&Shared) -> T, R: Wait>(
     rt: &R,
     alloc: Global,
@@ -217,9 +220,12 @@ fn end<L: Planned, B: Drop, T: Drop, F: FnOnce(&Shared) -> T, R: Wait>(
     requires callers { (L.callers ≡ count) × (0 < count) }
     requires takers { L.takers ≡ workers }
     requires room { L.room ≡ L.plan.capacity }
+    requires keep { L.keep ≡ keep_of L.plan.watched }
     requires judge { F.IsAlwaysCallable judge }
-    ensures { IfOk result (λ ran. (s : Sharing) × IsRun L.opening L.plan workers s
+    ensures run { IfOk result (λ ran. (s : Sharing)
+        × IsRun L.opening L.plan workers ran.left.items s
         × FnOnceReturnsAt F.FnOnce judge s ran.found) }
+    ensures backends { IfOk result (λ ran. vec_len ran.backends ≡ workers) }
 {
     let Back {
         callers,
@@ -230,6 +236,9 @@ fn end<L: Planned, B: Drop, T: Drop, F: FnOnce(&Shared) -> T, R: Wait>(
         return Err(AllocError);
     }
     if takers.len() != workers as usize {
+        return Err(AllocError);
+    }
+    if backends.len() != workers as usize {
         return Err(AllocError);
     }
     let gathered = gather(rt, callers);
@@ -266,10 +275,13 @@ fn run_among<
     requires opening { L.opening ≡ opening_of start.opening }
     requires pipe { (L.pipe ≡ start.put.pipe) × (L.takers ≡ start.put.takers) × (L.room ≡ start.put.room) }
     requires room { start.put.room ≡ run.capacity }
+    requires keep { L.keep ≡ keep_of run.watched }
     requires plan { L.plan ≡ plan_of run }
     requires judge { F.IsAlwaysCallable judge }
-    ensures { IfOk result (λ ran. (s : Sharing) × IsRun L.opening L.plan start.workers s
+    ensures run { IfOk result (λ ran. (s : Sharing)
+        × IsRun L.opening L.plan start.workers ran.left.items s
         × FnOnceReturnsAt F.FnOnce judge s ran.found) }
+    ensures backends { IfOk result (λ ran. vec_len ran.backends ≡ start.workers) }
 {
     let Start {
         logbook,
@@ -280,7 +292,8 @@ fn run_among<
         service,
     } = start;
     let closer = put.closer()?;
-    let mut others = share::<L>(alloc, logbook, opening, put, count)?;
+    let keep = keep_of(run.watched);
+    let mut others = share::<L>(alloc, logbook, opening, put, count, keep)?;
     let first = attach(rt, alloc, others.pop().ok_or(AllocError)?, run.point)?;
     let wanted = Wanted {
         walkers: run.walkers,
@@ -322,9 +335,10 @@ pub fn run_with<
     requires capacity { 0 < run.capacity }
     requires callers { run.walkers + vec_len backends + 2 < 2 ^ 32 }
     requires judge { F.IsAlwaysCallable judge }
-    ensures { IfOk result (λ ran. (s : Sharing)
-        × IsRun (opening_of opening) (plan_of run.entry) (vec_len backends) s
+    ensures run { IfOk result (λ ran. (s : Sharing)
+        × IsRun (opening_of opening) (plan_of run.entry) (vec_len backends) ran.left.items s
         × FnOnceReturnsAt F.FnOnce judge s ran.found) }
+    ensures backends { IfOk result (λ ran. vec_len ran.backends ≡ vec_len backends) }
 {
     let workers = backends.len() as u32;
     let callers = run.walkers + workers + 1 + breakers_of(run.breaks);

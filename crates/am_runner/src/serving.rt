@@ -1,6 +1,7 @@
 //! The workers of a run, each in a thread.
 
-ghost use Rattle.std.specs.Prelude.{◌≡◌, [], All, IfOk};
+ghost use Rattle.std.specs.Prelude.{◌≡◌, true, [], All, IfOk};
+ghost use Rattle.am_shared.specs.{keeps_events};
 ghost use Rattle.am_runner.specs.Parts.{AreWorkers};
 
 use crate::parts::{Common, Served, serves};
@@ -46,12 +47,14 @@ fn start_serving<
     backend: B,
     common: &'s Common<'s, 's, G>,
 ) -> Option<Worker<L, B>>
-    requires { (caller ≡ []) × (taker.pipe ≡ L.pipe) × (taker.got ≡ []) }
+    requires { (caller ≡ []) × (taker.pipe ≡ L.pipe) × (taker.got ≡ [])
+        × (keeps_events L.keep ≡ true) }
 {
     scope
         .spawn(
             move || -> Result<Served<L, B>, AllocError>
-                requires { (caller ≡ []) × (taker.pipe ≡ L.pipe) × (taker.got ≡ []) }
+                requires { (caller ≡ []) × (taker.pipe ≡ L.pipe) × (taker.got ≡ [])
+                    × (keeps_events L.keep ≡ true) }
             { serves(rt, alloc, caller, taker, backend, common) },
         )
         .ok()
@@ -76,6 +79,7 @@ pub fn start_workers<
 ) -> Result<Vec<Worker<L, B>>, AllocError>
     requires callers { All (λ caller. caller ≡ []) callers.old.items }
     requires takers { All (λ taker. (taker.pipe ≡ L.pipe) × (taker.got ≡ [])) service.takers.items }
+    requires keep { keeps_events L.keep ≡ true }
     ensures { All (λ caller. caller ≡ []) callers.new.items }
 {
     let Service {

@@ -1,14 +1,14 @@
 //! What a run came to.
 
-ghost use Rattle.std.specs.Prelude.{◌≡◌};
+ghost use Rattle.std.specs.Prelude.{◌≡◌, true};
 ghost use Rattle.std.specs.List.{count_by};
 ghost use Rattle.am_machine.specs.declared.answer.Answer.TheVariants.{Refused};
-ghost use Rattle.am_runner.specs.Runs.{is_out_of_memory, is_walk, is_round, is_entered, is_left, IsTallyOf};
+ghost use Rattle.am_shared.specs.{keeps_events};
+ghost use Rattle.am_runner.specs.Runs.{is_out_of_memory, is_walk, is_round, enters, is_leave, is_told_done, leaves, IsTallyOf};
 
 use am_machine::{Answer, Entry, Event};
 use am_names::Errno;
 use am_shared::Shared;
-use am_state::Obs;
 
 /// How often something was done in a run.
 #[derive(Clone, Copy, PartialEq, Eq, Debug)]
@@ -53,18 +53,33 @@ fn is_round(entry: &Entry) -> bool
     is_walk(&entry.event) && !is_out_of_memory(&entry.answer)
 }
 
-/// Whether a walker entered a mount.
-fn is_entered(obs: &Obs) -> bool
-    ensures { result ≡ is_entered obs.now }
+/// Whether a walker enters a mount by this event: its walk arrives.
+fn enters(entry: &Entry) -> bool
+    ensures { result ≡ enters entry.now }
 {
-    matches!(obs, Obs::Entered { .. })
+    matches!(entry.answer, Answer::At { .. })
 }
 
-/// Whether a walker left a mount.
-fn is_left(obs: &Obs) -> bool
-    ensures { result ≡ is_left obs.now }
+/// Whether a walker leaves.
+fn is_leave(event: &Event) -> bool
+    ensures { result ≡ is_leave event.now }
 {
-    matches!(obs, Obs::Left { .. })
+    matches!(event, Event::Leave { .. })
+}
+
+/// Whether it is done.
+fn is_told_done(answer: &Answer) -> bool
+    ensures { result ≡ is_told_done answer.now }
+{
+    matches!(answer, Answer::Done)
+}
+
+/// Whether a walker leaves a mount by this event.
+#[tactic(auto, unfolding(crate::specs::Runs::leaves))]
+fn leaves(entry: &Entry) -> bool
+    ensures { result ≡ leaves entry.now }
+{
+    is_leave(&entry.event) && is_told_done(&entry.answer)
 }
 
 /// How many rounds stand in a history.
@@ -81,12 +96,12 @@ fn rounds_in(history: &[Entry]) -> usize
 }
 
 /// How often walkers entered a mount.
-fn entered_in(trace: &[Obs]) -> usize
-    ensures { result ≡ count_by is_entered trace.now }
+fn entered_in(history: &[Entry]) -> usize
+    ensures { result ≡ count_by enters history.now }
 {
     let mut entered = 0;
-    for obs in trace {
-        if is_entered(obs) {
+    for entry in history {
+        if enters(entry) {
             entered += 1;
         }
     }
@@ -94,26 +109,26 @@ fn entered_in(trace: &[Obs]) -> usize
 }
 
 /// How often walkers left a mount.
-fn left_in(trace: &[Obs]) -> usize
-    ensures { result ≡ count_by is_left trace.now }
+fn left_in(history: &[Entry]) -> usize
+    ensures { result ≡ count_by leaves history.now }
 {
     let mut left = 0;
-    for obs in trace {
-        if is_left(obs) {
+    for entry in history {
+        if leaves(entry) {
             left += 1;
         }
     }
     left
 }
 
-/// The tally of a world.
+/// The tally of a world, by the answers of its history, where all events are kept.
 pub fn tally_of(shared: &Shared) -> Tally
-    ensures { IsTallyOf result shared.now }
+    ensures { keeps_events shared.now.keep ≡ true → IsTallyOf result shared.now }
 {
-    let trace = shared.seen();
+    let history = shared.history();
     Tally {
-        rounds: rounds_in(shared.history()) as u64,
-        entered: entered_in(trace) as u64,
-        left: left_in(trace) as u64,
+        rounds: rounds_in(history) as u64,
+        entered: entered_in(history) as u64,
+        left: left_in(history) as u64,
     }
 }

@@ -1,7 +1,8 @@
 //! What a worker has to do outside the world: its act, and the path that this is about.
 
-ghost use Rattle.std.specs.Prelude.{◌≡◌, Any, Some, IfNone, IfOk, IfSome, option_copied};
+ghost use Rattle.std.specs.Prelude.{◌≡◌, true, Any, Some, IfNone, IfOk, IfSome, option_copied};
 ghost use Rattle.am_job.specs.declared.act.Act.TheVariants as acts;
+ghost use Rattle.am_shared.specs.{keeps_events};
 ghost use Rattle.am_runner.specs.Tasks.{IsNextIn, IsNowhere, IsTaskOf, path_at as path_of_name, point_at};
 
 use am_job::Act;
@@ -109,9 +110,10 @@ fn task_of(alloc: Global, history: &[HistoryEntry], act: &Act) -> Result<Task, A
     }
 }
 
-/// The task of a job that comes next; none where there is no such job any more.
+/// The task of a job that comes next, where all events are kept; none where there is no such job any
+/// more.
 pub fn next_in(alloc: Global, shared: &Shared, job: JobId) -> Result<Option<Task>, AllocError>
-    ensures { IfOk result (IsNextIn shared.now job) }
+    ensures { IfOk result (λ found. keeps_events shared.now.keep ≡ true → IsNextIn shared.now job found) }
 {
     match shared.world().next_act(job) {
         Some(act) => Ok(Some(task_of(alloc, shared.history(), act)?)),

@@ -1,7 +1,7 @@
 //! A run of walkers and workers of whom nobody needs to know more than how many there are.
 
-ghost use Rattle.std.specs.Prelude.{◌≡◌, ◌+◌, ◌<◌, ◌^◌, vec_len, IfOk};
-ghost use Rattle.am_shared.specs.{opening_of};
+ghost use Rattle.std.specs.Prelude.{◌≡◌, ◌+◌, ◌<◌, ◌^◌, true, vec_len, IfOk};
+ghost use Rattle.am_shared.specs.{keeps_events, opening_of};
 ghost use Rattle.am_runner.specs.Runs.{IsAuto, IsTally, IsTallyOf};
 
 use crate::plan::Run;
@@ -91,6 +91,7 @@ pub fn run_threads<R: Threads + Wait + Sync>(
         rounds,
         breaks: 0,
         capacity: 64,
+        watched: false,
     };
     let opening = opening(alloc)?;
     let backends = backends(alloc, workers)?;
@@ -102,7 +103,7 @@ pub fn run_threads<R: Threads + Wait + Sync>(
         &Open,
         backends,
         |shared: &Shared| -> Tally
-            ensures { IsTallyOf result shared.now }
+            ensures { keeps_events shared.now.keep ≡ true → IsTallyOf result shared.now }
         { tally_of(shared) },
     )?;
     if ran.found.rounds != walkers as u64 * rounds as u64 {

@@ -2,13 +2,14 @@
 
 ghost use Rattle.std.specs.Prelude.{◌≡◌, true, IfOk, MatchBool, OnErr, OnOk};
 ghost use Rattle.am_pipe.specs.{IsDrained};
+ghost use Rattle.am_shared.specs.{keeps_events};
 ghost use Rattle.am_runner.specs.declared.calls.Reply.TheVariants.{Done};
 ghost use Rattle.am_runner.specs.Calls.{Adds, IsCall, Makes, RanOut};
-ghost use Rattle.am_runner.specs.Roles.{GivesUp, IsAct, delivery, IsActOf, IsBrokenOff, IsEnd, IsGivenUp};
+ghost use Rattle.am_runner.specs.Roles.{IsAct, delivery, IsActOf, IsBrokenOff, IsEnd, IsGivenUp};
 ghost use Rattle.am_runner.specs.Roles.{IsService, IsTried, IsWork, Serves};
 ghost use Rattle.am_runner.specs.Tasks.{IsNextIn, IsSeen};
 
-use crate::calls::{Reply, TRIES, call};
+use crate::calls::{Reply, TRIES, call, give_up};
 use crate::tasks::{Task, next_in};
 use am_machine::{Event, PacketBytes};
 use am_map::Entry;
@@ -73,6 +74,7 @@ fn next_task<L: Opened, R: Wait>(
     caller: &mut Caller<L>,
     job: JobId,
 ) -> Result<Option<Task>, AllocError>
+    requires keep { keeps_events L.keep ≡ true }
     ensures receipts { caller.new ≡ caller.old }
     ensures found { IfOk result (IsSeen L.opening caller.old job) }
 {
@@ -80,7 +82,8 @@ fn next_task<L: Opened, R: Wait>(
         let found = caller.look(
             rt,
             |shared: &Shared| -> Result<Option<Task>, AllocError>
-                ensures { IfOk result (IsNextIn shared.now job) }
+                ensures { IfOk result
+                    (λ found. keeps_events shared.now.keep ≡ true → IsNextIn shared.now job found) }
             { next_in(alloc, shared, job) },
         );
         if found.is_ok() {
@@ -99,6 +102,7 @@ fn act<L: Opened, B: Backend, R: Wait>(
     job: JobId,
     backend: &mut B,
 ) -> Result<bool, AllocError>
+    requires keep { keeps_events L.keep ≡ true }
     ensures ok { IfOk result (λ is_done. MatchBool is_done
         (Makes (IsAct job Done) caller.old caller.new)
         (Makes (IsEnd job) caller.old caller.new)) }
@@ -120,6 +124,7 @@ fn finish<L: Opened, B: Backend, R: Wait>(
     job: JobId,
     backend: &mut B,
 ) -> Result<(), AllocError>
+    requires keep { keeps_events L.keep ≡ true }
     ensures ok { OnOk result (Makes (IsWork job) caller.old caller.new) }
     ensures err { OnErr result (Adds (IsActOf job) caller.old caller.new) }
 {
@@ -173,6 +178,7 @@ fn serve<L: Opened, G: Gate, B: Backend, R: Wait>(
     gate: &G,
     backend: &mut B,
 ) -> Result<(), AllocError>
+    requires keep { keeps_events L.keep ≡ true }
     ensures ok { OnOk result (Makes (IsService taken.now) caller.old caller.new) }
     ensures err { OnErr result (Makes (IsBrokenOff taken.now) caller.old caller.new) }
 {
@@ -182,13 +188,6 @@ fn serve<L: Opened, G: Gate, B: Backend, R: Wait>(
     };
     gate.pass(job.0);
     finish(rt, alloc, caller, job, backend)
-}
-
-/// Gives up where memory is short: the file system becomes catatonic.
-fn give_up<L: Opened, R: Wait>(rt: &R, alloc: Global, caller: &mut Caller<L>, fs: FsId)
-    ensures { Makes (GivesUp fs) caller.old caller.new }
-{
-    let _position = caller.give_up(rt, alloc, fs);
 }
 
 /// Serves a note, or gives up where memory runs out for good.
@@ -201,6 +200,7 @@ fn serve_or_give_up<L: Opened, G: Gate, B: Backend, R: Wait>(
     gate: &G,
     backend: &mut B,
 ) -> Result<(), AllocError>
+    requires keep { keeps_events L.keep ≡ true }
     ensures ok { OnOk result (Makes (IsService taken.now) caller.old caller.new) }
     ensures err { OnErr result (Makes (IsGivenUp fs taken.now) caller.old caller.new) }
 {
@@ -226,6 +226,7 @@ pub fn daemon_worker<L: Opened, G: Gate, B: Backend, R: Wait>(
     gate: &G,
     backend: &mut B,
 ) -> Result<(), AllocError>
+    requires keep { keeps_events L.keep ≡ true }
     ensures pipe { taker.new.pipe ≡ taker.old.pipe }
     ensures over { taker.new.over ≡ true }
     ensures drained { IsDrained taker.new }

@@ -1,6 +1,6 @@
 -- One event more.
 use Rattle.std.proofs.Common.{◌≡◌, ℕ, ◌<◌, ◌≤◌, List, [], ◌∷◌, ◌++◌, length, length-append, drop}
-use Rattle.std.proofs.Common.{refl, sym, ap, ◌∙◌, subst, arith, append_assoc, inl, inr, ⊎_elim}
+use Rattle.std.proofs.Common.{◌+◌, Bool, true, false, refl, sym, ap, ◌∙◌, subst, arith, append_assoc, inl, inr, ⊎_elim, drop-drop}
 use Rattle.std.proofs.Math.Seq.{drop-append_seam}
 use Rattle.am_state.specs.{Obs}
 use Rattle.am_machine.specs.{Event, Answer, Setup, setup_of, initial_state_of, Step, Run, IsLegal, Entry, entry, events_of, answers_of}
@@ -10,7 +10,7 @@ use Rattle.am_world.specs.Capacity.{state_of}
 use Rattle.am_world.specs.{WorldTable}
 use Rattle.am_world.proofs.TableLemmas.{state_is}
 use Rattle.am_pipe.specs.{IsFull, Note, Putter}
-use Rattle.am_shared.specs.{notes_of, IsFlushed, IsFlushedSince, IsKept, IsShared, IsSharedFrom, Applies}
+use Rattle.am_shared.specs.{all_taken, notes_of, handed_before, keeps_events, keeps_seen, left_of, IsFlushed, IsFlushedSince, IsKept, IsShared, IsSharedFrom, Applies, Keep}
 use Rattle.am_shared.specs.Sharing.{Sharing}
 use Rattle.am_machine.proofs.Histories.{legal_more}
 use Rattle.am_shared.proofs.NoteLemmas.{notes_append, notes_count}
@@ -72,24 +72,87 @@ pub flushed_now : (looks : ℕ) (put : Putter) (unsent : List Note) → IsFlushe
     → IsFlushed put unsent
 flushed_now looks put unsent = ⊎_elim (λ none. inl none) (λ (full : (looks < put.looks) × IsFull put). inr full.1)
 
+-- a step of the world from which something of its trace was handed on before
+pub stepped_from : (s gone t : WorldTable) (event : Event) (answer : Answer) → state_of gone ≡ state_of s
+    → Stepped gone event answer t → Stepped s event answer t
+stepped_from s gone t event answer same step =
+    subst (λ (x : State). (seen : List Obs) × Step x event answer seen (state_of t)) same step
+
+-- what the world lends behind as much as it lent before the step is what was seen of it
+pub seen_behind : (s gone t : WorldTable) (before behind : List Obs) → gone.trace ≡ s.trace
+    → gone.handed + length before ≡ length gone.trace → t.handed ≡ gone.handed → behind ≡ drop t.handed t.trace
+    → drop (length before) behind ≡ drop (length s.trace) t.trace
+seen_behind s gone t before behind same count kept lent =
+    ap (drop (length before)) lent ∙ drop-drop (length before) t.handed t.trace
+    ∙ ap (λ (n : ℕ). drop n t.trace) (omega (arith, count, kept, ap length same))
+
+-- as much there is
+pub lends_no_less : (s gone t : WorldTable) (event : Event) (answer : Answer) (before behind : List Obs)
+    → Stepped s event answer t → gone.trace ≡ s.trace → gone.handed + length before ≡ length gone.trace
+    → t.handed ≡ gone.handed → t.handed + length behind ≡ length t.trace → length before ≤ length behind
+lends_no_less s gone t event answer before behind step same count kept all =
+    omega (arith, count, kept, all, ap length same, trace_grows s t event answer step)
+
+-- what was handed on before stays, where all is kept
+pub none_handed : (keep : Keep) (s : WorldTable) (n : ℕ) → n ≡ handed_before keep s
+    → (keeps_seen keep ≡ true → s.handed ≡ 0) → keeps_seen keep ≡ true → n ≡ 0
+none_handed keep s n is whole all = (is ∙ (rw all refl)) ∙ whole all
+
 -- what a world lends of its trace is all of it, where it keeps all
 pub all_kept : (t : WorldTable) (shown : List Obs) → shown ≡ drop t.handed t.trace → t.handed ≡ 0
     → shown ≡ t.trace
 all_kept t shown is whole = is ∙ ap (λ (n : ℕ). drop n t.trace) whole
 
+-- one entry more behind those that were taken
+pub one_behind : (taken left new : List Entry) (e : Entry) → new ≡ left ++ e ∷ []
+    → taken ++ new ≡ (taken ++ left) ++ e ∷ []
+one_behind taken left new e is = ap (λ l. taken ++ l) is ∙ sym (append_assoc taken left (e ∷ []))
+
+pub left_behind : (taken left new : List Entry) (e : Entry) → new ≡ left ++ e ∷ []
+    → drop (length taken) (taken ++ new) ≡ drop (length taken) (taken ++ left) ++ e ∷ []
+left_behind taken left new e is =
+    drop-append_seam taken new ∙ is ∙ ap (λ l. l ++ e ∷ []) (sym (drop-append_seam taken left))
+
+-- where none was taken, what is left is all
+pub all_left : (taken left : List Entry) → length taken ≡ 0 → left ≡ taken ++ left
+all_left [] left none = refl
+all_left (e ∷ taken) left none = absurd (omega (arith, none))
+
+-- its position is that of the last
+pub one_longer : (taken left new : List Entry) (e : Entry) (before position : ℕ) → new ≡ left ++ e ∷ []
+    → before ≡ length taken → position ≡ before + length left + 1 → position ≡ length (taken ++ new)
+one_longer taken left new e before position is count at =
+    omega (arith, count, at, ap length is, length-append left (e ∷ []), length-append taken new)
+
 -- so all of it is kept
 pub kept_after : (s t : WorldTable) (event : Event) (answer : Answer) (history later : List Entry)
-    (sent unsent collected : List Note) (looks : ℕ) (put : Putter) (left : List Note)
+    (sent unsent collected : List Note) (looks : ℕ) (put : Putter) (left : List Note) (keep : Keep) (taken : ℕ)
     → Stepped s event answer t → later ≡ history ++ entry event answer ∷ []
     → collected ≡ unsent ++ notes_of (drop (length s.trace) t.trace)
     → put.sent ++ left ≡ sent ++ collected → IsFlushedSince looks put left
-    → IsLegal history (state_of s) → sent ++ unsent ≡ notes_of s.trace → t.handed ≡ 0
-    → IsKept (record { world = t; history = later; put = put; unsent = left })
-kept_after s t event answer history later sent unsent collected looks put left step is all puts flushed legal notes whole = record {
+    → IsLegal history (state_of s) → sent ++ unsent ≡ notes_of s.trace
+    → (keeps_seen keep ≡ true → t.handed ≡ 0) → (keeps_events keep ≡ true → taken ≡ 0)
+    → IsKept (record { world = t; history = later; taken = taken; put = put; unsent = left; keep = keep })
+kept_after s t event answer history later sent unsent collected looks put left keep taken step is all puts flushed legal notes whole untaken = record {
   legal = kept_legal s t event answer history later step is legal;
   notes = kept_notes s t event answer sent unsent collected put.sent left step all puts notes;
   whole = whole;
+  untaken = untaken;
   flushed = flushed_now looks put left flushed;
+}
+
+either_way : {A : Type 0} (b : Bool) → b ≡ true → b ≡ false → A
+either_way true is isnt = absurd cc
+either_way false is isnt = absurd cc
+
+-- all entries are taken
+pub taken_kept : (s : Sharing) → keeps_events s.keep ≡ false → IsKept s → IsKept (all_taken s)
+taken_kept s none kept = record {
+  legal = kept.legal;
+  notes = kept.notes;
+  whole = kept.whole;
+  untaken = λ keeps. either_way (keeps_events s.keep) keeps none;
+  flushed = kept.flushed;
 }
 
 -- the opening stays
@@ -122,12 +185,13 @@ pub new_notes : (o : Setup) (t : WorldTable) → state_of t ≡ initial_state_of
 new_notes o t is =
     ap (λ (s : State). notes_of s.trace) (sym (state_is t) ∙ is)
 
-pub new_kept : (o : Setup) (t : WorldTable) (history : List Entry) (put : Putter) (unsent : List Note)
-    → state_of t ≡ initial_state_of o → t.handed ≡ 0 → history ≡ [] → put.sent ≡ [] → unsent ≡ []
-    → IsKept (record { world = t; history = history; put = put; unsent = unsent })
-new_kept o t history put unsent is whole none sent waiting = record {
+pub new_kept : (o : Setup) (t : WorldTable) (history : List Entry) (put : Putter) (unsent : List Note) (keep : Keep) (taken : ℕ)
+    → state_of t ≡ initial_state_of o → t.handed ≡ 0 → history ≡ [] → put.sent ≡ [] → unsent ≡ [] → taken ≡ 0
+    → IsKept (record { world = t; history = history; taken = taken; put = put; unsent = unsent; keep = keep })
+new_kept o t history put unsent keep taken is whole none sent waiting untaken = record {
   legal = subst (λ (l : List Entry). IsLegal l (state_of t)) (sym none) (new_legal o (state_of t) is);
   notes = (λ i. sent i ++ waiting i) ∙ sym (new_notes o t is);
-  whole = whole;
+  whole = λ all. whole;
+  untaken = λ all. untaken;
   flushed = inl (ap length waiting);
 }

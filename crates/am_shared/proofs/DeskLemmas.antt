@@ -1,9 +1,10 @@
 -- An event more, which is a call of a caller.
 use Rattle.std.proofs.Common.{◌≡◌, ℕ, ◌+◌, ◌-◌, List, [], ◌∷◌, ◌++◌, length, Some, slice_get, sym, ap}
-use Rattle.std.proofs.Common.{◌∙◌, subst, arith, length-append}
+use Rattle.std.proofs.Common.{◌∙◌, ◌≤◌, subst, arith, length-append, length-take-le, take, take-append-drop}
 use Rattle.am_machine.specs.{Answer, Entry, Event, Setup, entry, setup_of}
 use Rattle.am_world.specs.Capacity.{state_of}
-use Rattle.am_shared.specs.{Applies, IsShared, StandsLast}
+use Rattle.am_shared.specs.{AllAgree, Applies, IsShared, IsSharedFrom, IsTaken, Keep, Receipt, StandsLast, all_taken, left_of}
+use Rattle.am_shared.specs.declared.shared.Taken.{Taken}
 use Rattle.am_shared.specs.Sharing.{Sharing}
 use Rattle.am_shared.specs.Chronicle.{AreIn, keeper}
 use Rattle.am_shared.specs.{Known}
@@ -47,14 +48,39 @@ stands_last o old new event position answer mine h shared opening calls =
     }
 
 -- what is kept of a shared world that isn't given away yet
-pub kept_of : (callers : ℕ) (o : Setup) (pipe : TableId) (takers room : ℕ) (keeping : Known)
+pub kept_of : (callers : ℕ) (o : Setup) (pipe : TableId) (takers room : ℕ) (keep : Keep) (keeping : Known)
     (found : Option Sharing) (s : Sharing) → found ≡ Some s
     → MatchOption found (keeping.parts ≡ callers)
     (λ s. (keeping ≡ keeper callers s.history) × (setup_of (state_of s.world) ≡ o)
-    × (s.put.pipe ≡ pipe) × (s.put.takers ≡ takers) × (s.put.room ≡ room))
+    × (s.put.pipe ≡ pipe) × (s.put.takers ≡ takers) × (s.put.room ≡ room) × (s.keep ≡ keep))
     → (keeping ≡ keeper callers s.history) × (setup_of (state_of s.world) ≡ o)
-    × (s.put.pipe ≡ pipe) × (s.put.takers ≡ takers) × (s.put.room ≡ room)
-kept_of callers o pipe takers room keeping found s is kept = subst
+    × (s.put.pipe ≡ pipe) × (s.put.takers ≡ takers) × (s.put.room ≡ room) × (s.keep ≡ keep)
+kept_of callers o pipe takers room keep keeping found s is kept = subst
     (λ (f : Option Sharing). MatchOption f (keeping.parts ≡ callers)
     (λ s. (keeping ≡ keeper callers s.history) × (setup_of (state_of s.world) ≡ o)
-    × (s.put.pipe ≡ pipe) × (s.put.takers ≡ takers) × (s.put.room ≡ room))) is kept
+    × (s.put.pipe ≡ pipe) × (s.put.takers ≡ takers) × (s.put.room ≡ room) × (s.keep ≡ keep))) is kept
+
+-- so it is once all its entries are taken
+pub kept_taken : (callers : ℕ) (o : Setup) (pipe : TableId) (takers room : ℕ) (keep : Keep) (keeping : Known)
+    (old new : Sharing) → new ≡ all_taken old
+    → (keeping ≡ keeper callers old.history) × (setup_of (state_of old.world) ≡ o)
+    × (old.put.pipe ≡ pipe) × (old.put.takers ≡ takers) × (old.put.room ≡ room) × (old.keep ≡ keep)
+    → (keeping ≡ keeper callers new.history) × (setup_of (state_of new.world) ≡ o)
+    × (new.put.pipe ≡ pipe) × (new.put.takers ≡ takers) × (new.put.room ≡ room) × (new.keep ≡ keep)
+kept_taken callers o pipe takers room keep keeping old new is kept = subst
+    (λ (s : Sharing). (keeping ≡ keeper callers s.history) × (setup_of (state_of s.world) ≡ o)
+    × (s.put.pipe ≡ pipe) × (s.put.takers ≡ takers) × (s.put.room ≡ room) × (s.keep ≡ keep)) (sym is) kept
+
+-- what was left of a history comes behind what was taken before
+pub taken_of : (o : Setup) (receipts : List Receipt) (taken : Taken) (s : Sharing)
+    → IsSharedFrom o s → AllAgree s.history receipts → taken.before ≡ s.taken → taken.entries.items ≡ left_of s
+    → s.taken ≤ length s.history → IsTaken o receipts taken
+taken_of o receipts taken s shared agree before left within = record {
+  world = s;
+  shared = shared;
+  agree = agree;
+  before = before;
+  earlier = take s.taken s.history;
+  count = before ∙ sym (length-take-le s.taken s.history within);
+  whole = sym (take-append-drop s.taken s.history) ∙ ap (λ l. take s.taken s.history ++ l) (sym left);
+}

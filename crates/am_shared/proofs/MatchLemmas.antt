@@ -1,12 +1,12 @@
 -- Positions of receipts: how often each stands, and where they rise.
 use Rattle.std.proofs.Common.{◌≡◌, ℕ, zero, suc, ◌+◌, ◌-◌, ◌<◌, ◌≤◌, ◌==◌, List, [], ◌∷◌, ◌++◌}
-use Rattle.std.proofs.Common.{length, Some, slice_get, Bool, true, false, refl, sym, ap, ◌∙◌}
+use Rattle.std.proofs.Common.{drop, length, Some, slice_get, Bool, true, false, refl, sym, ap, ◌∙◌}
 use Rattle.std.proofs.Common.{subst, arith, rules, get_or, ltb, inl, inr, ◌⊎◌, ⊎_elim}
-use Rattle.std.specs.Prelude.{◌↔◌, IsTrue, if◌then◌else◌, nat_le}
+use Rattle.std.specs.Prelude.{◌↔◌, IsTrue, Option, if◌then◌else◌, nat_le, option_to_list}
 use Rattle.std.specs.List.Sorted.{IsNonDecreasingBy, IsPartitionPoint}
 use Rattle.std.proofs.lemmas.Bool.Decides.{nat_tests}
 use Rattle.am_machine.specs.{Entry}
-use Rattle.am_shared.specs.{Receipt, Agrees, AllAgree, EachAgree, Rise, EachRise, times, times_in, count_in, AtMostOnce, AllAway, Matches}
+use Rattle.am_shared.specs.{Receipt, Agrees, AgreesLeft, AllAgree, AllAgreeLeft, EachAgree, EachAgreeLeft, Rise, EachRise, times, times_in, count_in, AtMostOnce, AllAway, Matches}
 
 not_true : IsTrue false → ⊥
 not_true t = absurd (search rules)
@@ -156,20 +156,53 @@ pub count_snoc : (xs : List (List Receipt)) (x : List Receipt)
 count_snoc [] x = refl
 count_snoc (y ∷ ys) x = let r = count_snoc ys x in omega arith
 
-pub agree_front : (h : List Entry) (xs : List (List Receipt)) (x : List Receipt)
-    → EachAgree h (xs ++ x ∷ []) → EachAgree h xs
-agree_front h [] x e = tt
-agree_front h (y ∷ ys) x e = (e.0, agree_front h ys x e.1)
+pub agree_front : (n : ℕ) (h : List Entry) (xs : List (List Receipt)) (x : List Receipt)
+    → EachAgreeLeft n h (xs ++ x ∷ []) → EachAgreeLeft n h xs
+agree_front n h [] x e = tt
+agree_front n h (y ∷ ys) x e = (e.0, agree_front n h ys x e.1)
 
-pub agree_last : (h : List Entry) (xs : List (List Receipt)) (x : List Receipt)
-    → EachAgree h (xs ++ x ∷ []) → AllAgree h x
-agree_last h [] x e = e.0
-agree_last h (y ∷ ys) x e = agree_last h ys x e.1
+pub agree_last : (n : ℕ) (h : List Entry) (xs : List (List Receipt)) (x : List Receipt)
+    → EachAgreeLeft n h (xs ++ x ∷ []) → AllAgreeLeft n h x
+agree_last n h [] x e = e.0
+agree_last n h (y ∷ ys) x e = agree_last n h ys x e.1
 
-pub agree_snoc : (h : List Entry) (xs : List (List Receipt)) (x : List Receipt)
-    → EachAgree h xs → AllAgree h x → EachAgree h (xs ++ x ∷ [])
-agree_snoc h [] x e m = (m, tt)
-agree_snoc h (y ∷ ys) x e m = (e.0, agree_snoc h ys x e.1 m)
+pub agree_snoc : (n : ℕ) (h : List Entry) (xs : List (List Receipt)) (x : List Receipt)
+    → EachAgreeLeft n h xs → AllAgreeLeft n h x → EachAgreeLeft n h (xs ++ x ∷ [])
+agree_snoc n h [] x e m = (m, tt)
+agree_snoc n h (y ∷ ys) x e m = (e.0, agree_snoc n h ys x e.1 m)
+
+-- all, of whom the last is apart
+pub all_but_last : (all front : List (List Receipt)) (popped : Option (List Receipt)) (last rs : List Receipt)
+    → all ≡ front ++ option_to_list popped → popped ≡ Some last → rs ≡ last → all ≡ front ++ rs ∷ []
+all_but_last all front popped last rs is was same =
+    is ∙ ap (λ o. front ++ option_to_list o) was ∙ ap (λ (l : List Receipt). front ++ l ∷ []) (sym same)
+
+-- ---- what is left of a history
+
+found_left : (h : List Entry) (taken k : ℕ) (e : Entry) → slice_get h (taken + k) ≡ Some e
+    → slice_get (drop taken h) k ≡ Some e
+found_left h zero k e is = let same : k ≡ 0 + k = omega arith in ap (slice_get h) same ∙ is
+found_left [] (suc taken) k e is = absurd (cc is)
+found_left (x ∷ xs) (suc taken) k e is =
+    let next : suc (taken + k) ≡ suc taken + k = omega arith in
+    found_left xs taken k e (ap (slice_get (x ∷ xs)) next ∙ is)
+
+-- a receipt that agrees with the history does so with what is left of it
+agrees_left : (h : List Entry) (taken : ℕ) (r : Receipt) → Agrees h r → AgreesLeft taken (drop taken h) r
+agrees_left h taken r a = (
+  a.0,
+  λ lt. found_left h taken (r.position - 1 - taken) _
+      (ap (slice_get h) (omega (arith, lt, a.0)) ∙ a.1),
+)
+
+all_agree_left : (h : List Entry) (taken : ℕ) (rs : List Receipt) → AllAgree h rs → AllAgreeLeft taken (drop taken h) rs
+all_agree_left h taken [] a = tt
+all_agree_left h taken (r ∷ rs) a = (agrees_left h taken r a.0, all_agree_left h taken rs a.1)
+
+pub each_agree_left : (h : List Entry) (taken : ℕ) (callers : List (List Receipt)) → EachAgree h callers
+    → EachAgreeLeft taken (drop taken h) callers
+each_agree_left h taken [] a = tt
+each_agree_left h taken (rs ∷ rest) a = (all_agree_left h taken rs a.0, each_agree_left h taken rest a.1)
 
 -- a part that fails refuses the whole
 pub refuses : {A B : Type 0} (b : Bool) → (IsTrue b ↔ A) → b ≡ false → (B → A) → IsTrue false ↔ B

@@ -2,6 +2,7 @@
 use Rattle.std.specs.Prelude.{◌≡◌, ◌<◌, ℕ, List, [], ◌∷◌, ◌++◌, map, length, All}
 use Rattle.am_machine.specs.{Answer, Entry, Event, Setup, entry}
 use Rattle.am_shared.specs.declared.caller.Receipt.{Receipt}
+use Rattle.am_shared.specs.declared.shared.Taken.{Taken}
 use Rattle.am_shared.specs.Chronicle.{AreIn}
 use Rattle.am_shared.specs.Matching.{AllAgree}
 use Rattle.am_shared.specs.Sharing.{Sharing, IsSharedFrom}
@@ -43,3 +44,13 @@ pub record Receives (opening : Setup) (old new : List Receipt) (event : Event)
   pub answer : Answer
   pub receipt : new ≡ old ++ record { position = position; event = event; answer = answer } ∷ []
   pub stands : Stands opening new position
+
+-- what was taken of a shared world in which all these receipts stand: all of its history that wasn't taken before
+pub record IsTaken (opening : Setup) (receipts : List Receipt) (taken : Taken) : Type 0 where
+  pub world : Sharing
+  pub shared : IsSharedFrom opening world
+  pub agree : AllAgree world.history receipts
+  pub before : taken.before ≡ world.taken
+  pub earlier : List Entry
+  pub count : taken.before ≡ length earlier
+  pub whole : world.history ≡ earlier ++ taken.entries.items

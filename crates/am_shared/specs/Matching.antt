@@ -1,5 +1,5 @@
--- The receipts of all callers against the history: own choice (docs/DECISIONS.md, "Receipts are
--- compared at the end").
+-- The receipts of all callers against the history: own choice (docs/DECISIONS.md, "A receipt is an entry of the one
+-- history").
 use Rattle.std.specs.Prelude.{◌≡◌, ℕ, ◌+◌, ◌-◌, ◌<◌, ◌≤◌, ◌==◌, if◌then◌else◌, List, [], ◌∷◌, length}
 use Rattle.std.specs.Prelude.{Some, slice_get}
 use Rattle.am_machine.specs.{Entry, entry}
@@ -19,6 +19,22 @@ AllAgree history (r ∷ rs) = Agrees history r × AllAgree history rs
 abbrev pub EachAgree : List Entry → List (List Receipt) → Type 0
 EachAgree history [] = Unit {0}
 EachAgree history (rs ∷ rest) = AllAgree history rs × EachAgree history rest
+
+-- what is left behind so many entries that were taken has the receipt's event, with its answer, at its
+-- position, unless that was taken
+abbrev pub AgreesLeft : ℕ → List Entry → Receipt → Type 0
+AgreesLeft taken left r =
+    (0 < r.position) × (taken < r.position → slice_get left (r.position - 1 - taken) ≡ Some (entry r.event r.answer))
+
+-- each receipt does so
+abbrev pub AllAgreeLeft : ℕ → List Entry → List Receipt → Type 0
+AllAgreeLeft taken left [] = Unit {0}
+AllAgreeLeft taken left (r ∷ rs) = AgreesLeft taken left r × AllAgreeLeft taken left rs
+
+-- so do those of each caller
+abbrev pub EachAgreeLeft : ℕ → List Entry → List (List Receipt) → Type 0
+EachAgreeLeft taken left [] = Unit {0}
+EachAgreeLeft taken left (rs ∷ rest) = AllAgreeLeft taken left rs × EachAgreeLeft taken left rest
 
 -- positions rise, from above low
 abbrev pub Rise : ℕ → List Receipt → Type 0

@@ -4,9 +4,10 @@ ghost use Rattle.std.specs.Prelude.{◌≡◌, ◌<◌, ◌-◌, [], length, vec
 ghost use Rattle.std.specs.Prelude.{IfOk, IfErr, OnOk, false};
 ghost use Rattle.std.specs.Sync.Mutex.{mutex_guard_value};
 ghost use Rattle.std.specs.Fn.{FnOnceReturnsAt};
-ghost use Rattle.am_shared.specs.Calls.{Receives};
+ghost use Rattle.am_shared.specs.Calls.{IsTaken, Receives};
 ghost use Rattle.am_shared.specs.Chronicle.{caller as caller_with, keeper};
 ghost use Rattle.am_shared.specs.Matching.{AllAgree};
+ghost use Rattle.am_shared.specs.declared.keep.Keep.TheVariants.{Nothing};
 ghost use Rattle.am_shared.specs.Opening.{opening_of};
 ghost use Rattle.am_shared.specs.Passes.{CallsOn, KeepsHistory, view_of};
 ghost use Rattle.am_shared.specs.Sharing.{Sharing, IsSharedFrom, has_to_wait, is_held_up};
@@ -14,10 +15,11 @@ ghost use Rattle.am_shared.specs.Sharing.{Sharing, IsSharedFrom, has_to_wait, is
 use crate::bells::Bells;
 use crate::chronicle::{History, Pass, admit};
 use crate::desk::{Desk, Made};
+use crate::keep::Keep;
 use crate::logbook::Logbook;
 use crate::opened::Opened;
 use crate::opening::Opening;
-use crate::shared::{Shared, Uncalled};
+use crate::shared::{Shared, Taken, Uncalled};
 use am_machine::{Answer, Event};
 use am_names::{FsId, WalkerId};
 use am_pipe::PutEnd;
@@ -88,18 +90,20 @@ fn admit_all(
 }
 
 /// Shares the initial world of an opening among so many callers, whose events will stand in the
-/// logbook.
+/// logbook, and keeps of what was as much as is asked for.
 pub fn share<L: Opened>(
     alloc: Global,
     logbook: Logbook,
     opening: Opening,
     put: PutEnd,
     callers: u32,
+    keep: Keep,
 ) -> Result<Vec<Caller<L>>, AllocError>
     requires logbook { L.logbook ≡ logbook }
     requires callers { (L.callers ≡ callers) × (0 < callers) }
     requires opening { L.opening ≡ opening_of opening }
     requires put { (put.sent ≡ []) × (L.pipe ≡ put.pipe) × (L.takers ≡ put.takers) × (L.room ≡ put.room) }
+    requires keep { L.keep ≡ keep }
     ensures len { IfOk result (λ made. vec_len made ≡ callers) }
     ensures each { IfOk result (λ made. All (λ caller. caller ≡ []) made.items) }
 {
@@ -107,7 +111,7 @@ pub fn share<L: Opened>(
         history,
         mut keeping,
     } = logbook;
-    let shared = Shared::new(alloc, opening, put)?;
+    let shared = Shared::new(alloc, opening, put, keep)?;
     let passes = admit_all(alloc, &history, &mut keeping, callers)?;
     let lock = Arc::new(
         alloc,
@@ -121,7 +125,8 @@ pub fn share<L: Opened>(
     for pass in passes {
         made.push_reserved(Caller {
             lock: Arc::try_clone(&lock)?,
-            receipts: Vec::new(alloc),
+            // Room ahead for who gives up before any call of his own.
+            receipts: Vec::with_capacity(alloc, 1)?,
             pass,
         });
     }
@@ -200,13 +205,26 @@ impl<L: Opened> Caller<L> {
     pub fn look<T, F: FnOnce(&Shared) -> T, R: Wait>(&mut self, rt: &R, f: F) -> T
         requires { F.IsAlwaysCallable f }
         ensures receipts { self.new ≡ self.old }
-        ensures lent { (s : Sharing) × IsSharedFrom L.opening s × AllAgree s.history self.old
-            × FnOnceReturnsAt F.FnOnce f s result }
+        ensures lent { (s : Sharing) × IsSharedFrom L.opening s × (s.keep ≡ L.keep)
+            × AllAgree s.history self.old × FnOnceReturnsAt F.FnOnce f s result }
     {
         self.lock
             .desk
             .lock(rt)
             .lend(&self.lock.history, &mut self.pass, f)
+    }
+
+    /// Takes the events that are left of the history, those of all callers, each with its answer, where
+    /// the world is to keep nothing, and tells how many were taken before. It takes no memory.
+    pub fn take_history<R: Wait>(&mut self, rt: &R, alloc: Global) -> Taken
+        requires { L.keep ≡ Nothing }
+        ensures receipts { self.new ≡ self.old }
+        ensures taken { IsTaken L.opening self.old result }
+    {
+        self.lock
+            .desk
+            .lock(rt)
+            .take_history(alloc, &self.lock.history, &mut self.pass)
     }
 
     /// Waits until a walker has no wait that isn't acknowledged, and lends what lies under the lock
@@ -219,8 +237,8 @@ impl<L: Opened> Caller<L> {
     ) -> T
         requires { F.IsAlwaysCallable f }
         ensures receipts { self.new ≡ self.old }
-        ensures lent { (s : Sharing) × IsSharedFrom L.opening s × AllAgree s.history self.old
-            × (has_to_wait walker s ≡ false) × FnOnceReturnsAt F.FnOnce f s result }
+        ensures lent { (s : Sharing) × IsSharedFrom L.opening s × (s.keep ≡ L.keep)
+            × AllAgree s.history self.old × (has_to_wait walker s ≡ false) × FnOnceReturnsAt F.FnOnce f s result }
     {
         let mut desk = self.lock.released(rt, walker);
         desk.lend(&self.lock.history, &mut self.pass, f)

@@ -1,18 +1,19 @@
 //! What the lock of a shared world keeps.
 
-ghost use Rattle.std.specs.Prelude.{◌≡◌, ◌<◌, ◌+◌, ◌++◌, [], ◌∷◌, Some, IfErr, IfOk, MatchResult, length};
+ghost use Rattle.std.specs.Prelude.{◌≡◌, ◌<◌, ◌≤◌, ◌+◌, ◌++◌, [], ◌∷◌, Some, IfErr, IfOk, MatchResult, length};
 ghost use Rattle.std.specs.Fn.{FnOnceReturnsAt};
 ghost use Rattle.am_machine.specs.{entry as entry_of, setup_of};
 ghost use Rattle.am_world.specs.Capacity.{state_of};
 ghost use Rattle.am_shared.specs.Calls.{StandsLast};
 ghost use Rattle.am_shared.specs.Chronicle.{AreIn, caller as caller_with, keeper};
+ghost use Rattle.am_shared.specs.declared.keep.Keep.TheVariants.{Nothing};
 ghost use Rattle.am_shared.specs.Passes.{CallsOn, KeepsHistory, IsOn, view_of};
-ghost use Rattle.am_shared.specs.Sharing.{Sharing, IsSharedFrom, is_held_up};
+ghost use Rattle.am_shared.specs.Sharing.{Sharing, IsSharedFrom, all_taken, is_held_up, left_of};
 
 use crate::bells::{Rung, rung_by};
 use crate::chronicle::{History, Pass, meet, not_all, record};
 use crate::opened::Opened;
-use crate::shared::{Shared, Uncalled};
+use crate::shared::{Shared, Taken, Uncalled};
 use am_machine::{Answer, Event};
 use am_names::WalkerId;
 use std::alloc::Global;
@@ -45,7 +46,8 @@ impl<L: Opened> Model for Desk<L> {
         × MatchOption d.shared ((view_of d.keeping).parts ≡ L.callers)
         (λ s. (view_of d.keeping ≡ keeper L.callers s.history)
         × (setup_of (state_of s.world) ≡ L.opening)
-        × (s.put.pipe ≡ L.pipe) × (s.put.takers ≡ L.takers) × (s.put.room ≡ L.room)) };
+        × (s.put.pipe ≡ L.pipe) × (s.put.takers ≡ L.takers) × (s.put.room ≡ L.room)
+        × (s.keep ≡ L.keep)) };
 }
 
 /// An event that was made: its position, its answer, and whose bells are to be rung.
@@ -63,6 +65,7 @@ impl<L: Opened> Desk<L> {
         requires opening { setup_of (state_of shared.world) ≡ L.opening }
         requires put { (shared.put.pipe ≡ L.pipe) × (shared.put.takers ≡ L.takers)
             × (shared.put.room ≡ L.room) }
+        requires keep { shared.keep ≡ L.keep }
         ensures { result ≡ Some shared }
     {
         Desk {
@@ -113,7 +116,7 @@ impl<L: Opened> Desk<L> {
             not_all(history, keeping, calling);
             unreachable!()
         };
-        let seen = shared.world().trace().len();
+        let seen = shared.seen_before();
         let made = shared.apply_with(rt, alloc, event, is_ahead)?;
         let Some(last) = shared.history().last() else {
             unreachable!()
@@ -124,6 +127,35 @@ impl<L: Opened> Desk<L> {
             answer: made.answer,
             released: rung_by(shared.world().seen_since(seen)),
         })
+    }
+
+    /// Takes the events that are left of the history, which has all calls of the caller.
+    pub fn take_history(&mut self, alloc: Global, history: &History, calling: &mut Pass) -> Taken
+        requires keep { L.keep ≡ Nothing }
+        requires history { history.now.shared.table_id ≡ L.logbook }
+        requires caller { CallsOn L.logbook calling.old }
+        ensures caller { CallsOn L.logbook calling.new
+            × ((view_of calling.new).mine ≡ (view_of calling.old).mine) }
+        ensures taken { (s : Sharing) × (self.old ≡ Some s) × (self.new ≡ Some (all_taken s))
+            × IsSharedFrom L.opening s × AreIn s.history (view_of calling.old).mine
+            × (result.before ≡ s.taken) × (result.entries.items ≡ left_of s)
+            × (s.taken ≤ length s.history) }
+    {
+        let Desk {
+            shared,
+            keeping,
+            ..
+        } = self;
+        let Some(shared) = shared.as_mut() else {
+            not_all(history, keeping, calling);
+            unreachable!()
+        };
+        meet(history, keeping, calling);
+        // What a shared world keeps is known where its history is read.
+        let _history = shared.history();
+        let before = shared.taken();
+        let entries = shared.take_history(alloc);
+        Taken { before, entries }
     }
 
     /// Lends the shared world, whose history has all calls of the caller.
@@ -140,7 +172,7 @@ impl<L: Opened> Desk<L> {
         ensures caller { CallsOn L.logbook calling.new
             × ((view_of calling.new).mine ≡ (view_of calling.old).mine) }
         ensures lent { (s : Sharing) × (self.old ≡ Some s) × IsSharedFrom L.opening s
-            × AreIn s.history (view_of calling.old).mine × FnOnceReturnsAt F.FnOnce f s result }
+            × (s.keep ≡ L.keep) × AreIn s.history (view_of calling.old).mine × FnOnceReturnsAt F.FnOnce f s result }
     {
         let Desk {
             shared,

@@ -3,9 +3,9 @@
 ghost use Rattle.std.specs.Prelude.{◌≡◌, ◌↔◌, ◌+◌, ◌<◌, [], ◌∷◌, ◌++◌, ℕ, true, Some, IsTrue, vec_len, length};
 ghost use Rattle.am_shared.specs.Calls.{all_calls};
 ghost use Rattle.am_shared.specs.Chronicle.{AreIn, weigh, weigh_to};
-ghost use Rattle.am_shared.specs.Matching.{count_in, EachAgree, EachRise, Matches};
+ghost use Rattle.am_shared.specs.Matching.{count_in, EachAgreeLeft, EachRise, Matches};
 ghost use Rattle.am_shared.specs.Passes.{CallsOn, IsOn, view_of};
-ghost use Rattle.am_shared.specs.Sharing.{Sharing, IsSharedFrom};
+ghost use Rattle.am_shared.specs.Sharing.{Sharing, IsSharedFrom, left_of};
 
 use crate::caller::{Caller, Receipt};
 use crate::chronicle::{History, Pass, hand_in, meet, not_all};
@@ -21,7 +21,7 @@ pub struct Gathered {
     pub shared: Shared,
     /// How many events the callers made.
     pub count: u64,
-    /// The test of their receipts.
+    /// The test of their receipts, of which those of events that were taken are compared no more.
     pub is_matched: bool,
 }
 
@@ -49,7 +49,8 @@ fn hand_all_in<L: Opened>(callers: Vec<Caller<L>>, history: &History, keeping: &
 }
 
 impl<L: Opened> Desk<L> {
-    /// The test of the receipts of all callers, of whom the last is apart, against the history.
+    /// The test of the receipts of all callers, of whom the last is apart, against what is left of the
+    /// history.
     fn are_matched(
         &mut self,
         in_order: bool,
@@ -64,7 +65,8 @@ impl<L: Opened> Desk<L> {
         ensures caller { CallsOn L.logbook calling.new
             × ((view_of calling.new).mine ≡ (view_of calling.old).mine) }
         ensures test { (s : Sharing) × (self.old ≡ Some s) × (IsTrue result ↔
-            (IsTrue in_order × EachAgree s.history (callers.entry.now ++ last.entry.now ∷ []))) }
+            (IsTrue in_order × EachAgreeLeft s.taken (left_of s)
+            (callers.entry.now ++ last.entry.now ∷ []))) }
     {
         let Desk {
             shared,
@@ -75,7 +77,7 @@ impl<L: Opened> Desk<L> {
             not_all(history, keeping, calling);
             unreachable!()
         };
-        are_matched(in_order, shared.history(), callers, last)
+        are_matched(in_order, shared.taken(), shared.history(), callers, last)
     }
 
     /// Gives the shared world to who has all callers in hand, of whom the last is apart, and keeps
@@ -87,6 +89,7 @@ impl<L: Opened> Desk<L> {
         ensures taken { self.old ≡ Some result }
         ensures shared { IsSharedFrom L.opening result }
         ensures put { (result.put.pipe ≡ L.pipe) × (result.put.takers ≡ L.takers) × (result.put.room ≡ L.room) }
+        ensures keep { result.keep ≡ L.keep }
         ensures calls { AreIn result.history (all_calls callers.items ++ (view_of last).mine) }
         ensures once { (h : ℕ → ℕ) → weigh h (all_calls callers.items ++ (view_of last).mine)
             ≡ weigh_to h (length result.history) }
@@ -115,6 +118,7 @@ pub fn gather<L: Opened, R: Wait>(rt: &R, callers: Vec<Caller<L>>) -> Gathered
     ensures shared { IsSharedFrom L.opening result.shared }
     ensures put { (result.shared.put.pipe ≡ L.pipe) × (result.shared.put.takers ≡ L.takers)
         × (result.shared.put.room ≡ L.room) }
+    ensures keep { result.shared.keep ≡ L.keep }
     ensures count { (result.count ≡ count_in callers.items)
         × (length result.shared.history ≡ count_in callers.items) }
     ensures matched { Matches result.shared.history callers.items }
@@ -139,7 +143,7 @@ pub fn gather<L: Opened, R: Wait>(rt: &R, callers: Vec<Caller<L>>) -> Gathered
         &mut pass,
     );
     let shared = desk.take(callers, pass, &lock.history);
-    let count = shared.history().len() as u64;
+    let count = shared.count();
     Gathered {
         shared,
         count,

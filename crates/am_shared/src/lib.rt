@@ -7,6 +7,7 @@ mod caller;
 mod chronicle;
 mod desk;
 mod gathering;
+mod keep;
 pub mod laws;
 mod logbook;
 mod matching;
@@ -18,8 +19,9 @@ mod shared;
 
 pub use caller::{Caller, Receipt, share};
 pub use gathering::{Gathered, gather};
+pub use keep::Keep;
 pub use logbook::Logbook;
 pub use opened::Opened;
 pub use opening::Opening;
 pub use parts::{Applied, Parts};
-pub use shared::{Shared, Uncalled};
+pub use shared::{Shared, Taken, Uncalled};

@@ -2,7 +2,7 @@
 
 ghost use Rattle.std.specs.Prelude.{◌≡◌, ◌↔◌, ◌<◌, [], ◌∷◌, ◌++◌, IsTrue};
 ghost use Rattle.am_machine.specs.History.{entry as entry_of};
-ghost use Rattle.am_shared.specs.Matching.{Agrees, AllAgree, EachAgree, Rise, EachRise};
+ghost use Rattle.am_shared.specs.Matching.{AgreesLeft, AllAgreeLeft, EachAgreeLeft, Rise, EachRise};
 ghost use Rattle.am_shared.specs.Matching.{times, times_in, AtMostOnce, AllAway};
 
 use crate::caller::{Caller, Receipt};
@@ -15,61 +15,70 @@ fn is_entry(entry: &Entry, receipt: &Receipt) -> bool
 {
     entry.event.is_same(&receipt.event) && entry.answer.is_same(&receipt.answer)
 }
-/// Whether the history has the receipt's event, with its answer, at its position.
-fn agrees(history: &[Entry], receipt: &Receipt) -> bool
-    ensures { IsTrue result ↔ Agrees history.now receipt.now }
+
+/// Whether what is left of the history, behind so many entries that were taken, has the receipt's event,
+/// with its answer, at its position, unless that was taken.
+fn agrees(taken: u64, left: &[Entry], receipt: &Receipt) -> bool
+    ensures { IsTrue result ↔ AgreesLeft taken left.now receipt.now }
 {
     if receipt.position == 0 {
         return false;
     }
-    match history.get((receipt.position - 1) as usize) {
+    if receipt.position <= taken {
+        return true;
+    }
+    match left.get((receipt.position - 1 - taken) as usize) {
         Some(entry) => is_entry(entry, receipt),
         None => false,
     }
 }
 
-/// Whether the history has the event and the answer of each receipt at its position.
-fn all_agree(history: &[Entry], receipts: &[Receipt]) -> bool
-    ensures { IsTrue result ↔ AllAgree history.now receipts.now }
+/// Whether what is left has the event and the answer of each receipt at its position, unless that was
+/// taken.
+fn all_agree(taken: u64, left: &[Entry], receipts: &[Receipt]) -> bool
+    ensures { IsTrue result ↔ AllAgreeLeft taken left.now receipts.now }
 {
     for receipt in receipts {
-        if !agrees(history, receipt) {
+        if !agrees(taken, left, receipt) {
             return false;
         }
     }
     true
 }
 
-/// Whether the history has the event and the answer of each receipt at its position.
-pub fn each_agree<L: Opened>(history: &[Entry], callers: &[Caller<L>]) -> bool
-    ensures { IsTrue result ↔ EachAgree history.now callers.now }
+/// Whether what is left has the event and the answer of each receipt at its position, unless that was
+/// taken.
+pub fn each_agree<L: Opened>(taken: u64, left: &[Entry], callers: &[Caller<L>]) -> bool
+    ensures { IsTrue result ↔ EachAgreeLeft taken left.now callers.now }
 {
     for caller in callers {
-        if !all_agree(history, caller.receipts()) {
+        if !all_agree(taken, left, caller.receipts()) {
             return false;
         }
     }
     true
 }
 
-/// Whether the receipts of all callers, of whom the last is apart, are in order, and the history
-/// has the event and the answer of each of them at its position.
+/// Whether the receipts of all callers, of whom the last is apart, are in order, and what is left of the
+/// history, behind so many entries that were taken, has the event and the answer of each of them at its
+/// position, unless that was taken.
 pub fn are_matched<L: Opened>(
     in_order: bool,
-    history: &[Entry],
+    taken: u64,
+    left: &[Entry],
     callers: &[Caller<L>],
     last: &[Receipt],
 ) -> bool
     ensures { IsTrue result ↔
-        (IsTrue in_order × EachAgree history.now (callers.now ++ last.now ∷ [])) }
+        (IsTrue in_order × EachAgreeLeft taken left.now (callers.now ++ last.now ∷ [])) }
 {
     if !in_order {
         return false;
     }
-    if !each_agree(history, callers) {
+    if !each_agree(taken, left, callers) {
         return false;
     }
-    all_agree(history, last)
+    all_agree(taken, left, last)
 }
 
 /// Whether the positions of the receipts rise.

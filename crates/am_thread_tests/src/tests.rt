@@ -5,6 +5,7 @@ mod crowds;
 mod deaths;
 mod ends;
 mod events;
+mod histories;
 mod packets;
 mod pipes;
 mod releases;

@@ -35,10 +35,14 @@ impl Machine {
     pub fn copy(&self, alloc: Global) -> Result<Machine, AllocError>
         ensures { IfOk result (λ copy. whole_state copy ≡ whole_state self.now) }
     {
+        // The kernel comes last, so that no early return lets it go.
+        let trace = copies_of(alloc, self.trace.as_slice())?;
+        let daemon = self.daemon.copy(alloc)?;
+        let kernel = self.kernel.copy(alloc)?;
         Ok(Machine {
-            kernel: self.kernel.copy(alloc)?,
-            daemon: self.daemon.copy(alloc)?,
-            trace: copies_of(alloc, self.trace.as_slice())?,
+            kernel,
+            daemon,
+            trace,
         })
     }
 

@@ -81,6 +81,7 @@ fn two_walkers_go_home(rt: HostRuntime) -> Result<(), Fail> {
         rounds: 3,
         breaks: 0,
         capacity: 16,
+        watched: true,
     };
     let mut backends = Vec::new(alloc);
     backends.push(Counts {

@@ -2,12 +2,13 @@
 //! too: a call that finds no memory keeps no receipt, and goes on when it is made again.
 
 ghost use Rattle.am_shared.specs.{opening_of};
+ghost use Rattle.am_shared.specs.declared.keep.Keep.TheVariants as keeps;
 ghost use Rattle.std.specs.Prelude.{◌≡◌, ◌<◌, []};
 
 use crate::tests::worlds::{call, is_line, world_and_ends};
 use am_names::Errno;
 use am_pipe::{Note, PutEnd, TakeEnd, pipe};
-use am_shared::{Caller, Logbook, Opened, Opening, Receipt, Shared, gather, share};
+use am_shared::{Caller, Keep, Logbook, Opened, Opening, Receipt, Shared, gather, share};
 use am_world::Answer;
 use std::alloc::{AllocError, Global};
 use std::marker::Brand;
@@ -169,8 +170,9 @@ fn played<L: Opened, R: Wait + Abort>(
     requires callers { (L.callers ≡ callers) × (0 < callers) }
     requires opening { L.opening ≡ opening_of begun }
     requires put { (put.sent ≡ []) × (L.pipe ≡ put.pipe) × (L.takers ≡ put.takers) × (L.room ≡ put.room) }
+    requires keep { L.keep ≡ keeps.Events }
 {
-    let mut made = share::<L>(alloc, logbook, begun, put, callers)?;
+    let mut made = share::<L>(alloc, logbook, begun, put, callers, Keep::Events)?;
     let last = plays(rt, alloc, made.as_mut_slice());
     let gathered = gather(rt, made);
     let end = end_of(&gathered.shared, gathered.count, gathered.is_matched);

@@ -1,6 +1,7 @@
 //! Threads that walk, serve, mount and expire, all at once. The history is one of a single thread.
 
 ghost use Rattle.am_shared.specs.{opening_of};
+ghost use Rattle.am_shared.specs.declared.keep.Keep.TheVariants as keeps;
 ghost use Rattle.std.specs.Prelude.{◌≡◌, ◌<◌, []};
 
 use crate::tests::sizes::number;
@@ -8,7 +9,7 @@ use crate::tests::worlds::{call, world_and_ends, world_of};
 use am_machine::Entry;
 use am_names::{JobId, Token, WalkerId};
 use am_pipe::{PutEnd, pipe};
-use am_shared::{Caller, Logbook, Opened, Opening, Shared, gather, share};
+use am_shared::{Caller, Keep, Logbook, Opened, Opening, Shared, gather, share};
 use am_state::Obs;
 use am_world::laws::trace_holds;
 use am_world::{Answer, Ran, World, run};
@@ -272,8 +273,9 @@ fn crowd<L: Opened + Send + Sync, R: Threads + Wait + Abort + Sync>(
     requires threads { (L.callers ≡ size.threads) × (0 < size.threads) }
     requires opening { L.opening ≡ opening_of begun }
     requires put { (put.sent ≡ []) × (L.pipe ≡ put.pipe) × (L.takers ≡ put.takers) × (L.room ≡ put.room) }
+    requires keep { L.keep ≡ keeps.All }
 {
-    let mut callers = share::<L>(alloc, logbook, begun, put, size.threads)?;
+    let mut callers = share::<L>(alloc, logbook, begun, put, size.threads, Keep::All)?;
     assert!(rt; attach(rt, alloc, callers.as_mut_slice()), "an autofs");
     thread::for_each_mut(
         rt,

@@ -146,6 +146,7 @@ fn plays<R: Threads + Wait + Abort + Sync>(
         rounds: size.rounds,
         breaks: size.breaks,
         capacity: 64,
+        watched: true,
     };
     assert!(rt;
         !backends.is_empty() && backends.len() < 1_000,

@@ -3,12 +3,13 @@
 
 ghost use Rattle.std.specs.Prelude.{◌≡◌, []};
 ghost use Rattle.am_shared.specs.{opening_of};
+ghost use Rattle.am_shared.specs.declared.keep.Keep.TheVariants as keeps;
 
 use am_map::{Map, MapKind};
 use am_master::Master;
 use am_names::{AbsPath, FsId, Limits, NsId, PipeState, Place, Seconds, WalkerId};
 use am_pipe::{Note, PutEnd, TakeEnd, pipe};
-use am_shared::{Caller, Logbook, Opened, Opening, Shared, gather, share};
+use am_shared::{Caller, Keep, Logbook, Opened, Opening, Shared, gather, share};
 use am_world::{Answer, Event};
 use std::alloc::{AllocError, Global};
 use std::collections::VecDeque;
@@ -141,8 +142,9 @@ fn plays<L: Opened, R: Wait + Abort>(
     requires logbook { (L.logbook ≡ logbook) × (L.callers ≡ 1) }
     requires opening { L.opening ≡ opening_of begun }
     requires put { (put.sent ≡ []) × (L.pipe ≡ put.pipe) × (L.takers ≡ put.takers) × (L.room ≡ put.room) }
+    requires keep { L.keep ≡ keeps.Events }
 {
-    let mut callers: Vec<Caller<L>> = share(alloc, logbook, begun, put, 1)?;
+    let mut callers: Vec<Caller<L>> = share(alloc, logbook, begun, put, 1, Keep::Events)?;
     let caller = callers.first_mut().ok_or(AllocError)?;
     assert!(rt; attaches(rt, alloc, caller)?, "an autofs");
     assert!(rt; all_wait(rt, alloc, caller)?, "each walker waits");
@@ -179,8 +181,9 @@ fn gives_up<L: Opened, R: Wait + Abort>(
     requires logbook { (L.logbook ≡ logbook) × (L.callers ≡ 1) }
     requires opening { L.opening ≡ opening_of begun }
     requires put { (put.sent ≡ []) × (L.pipe ≡ put.pipe) × (L.takers ≡ put.takers) × (L.room ≡ put.room) }
+    requires keep { L.keep ≡ keeps.Events }
 {
-    let mut callers: Vec<Caller<L>> = share(alloc, logbook, begun, put, 1)?;
+    let mut callers: Vec<Caller<L>> = share(alloc, logbook, begun, put, 1, Keep::Events)?;
     let caller = callers.first_mut().ok_or(AllocError)?;
     assert!(rt; attaches(rt, alloc, caller)?, "an autofs");
     assert!(rt; waits(rt, alloc, caller, 7)?, "a walker waits");

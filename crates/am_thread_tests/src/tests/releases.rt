@@ -1,12 +1,13 @@
 //! A walker that waits in a thread of its own, until the daemon's thread has released it.
 
 ghost use Rattle.am_shared.specs.{opening_of};
+ghost use Rattle.am_shared.specs.declared.keep.Keep.TheVariants as keeps;
 ghost use Rattle.std.specs.Prelude.{◌≡◌, []};
 
 use crate::tests::worlds::{call, is_line, world_and_ends};
 use am_names::{FsId, WalkerId};
 use am_pipe::{PutEnd, pipe};
-use am_shared::{Caller, Logbook, Opened, Opening, Shared, gather, share};
+use am_shared::{Caller, Keep, Logbook, Opened, Opening, Shared, gather, share};
 use std::alloc::{AllocError, Global};
 use std::marker::Brand;
 use std::process::Abort;
@@ -119,8 +120,9 @@ fn released<L: Opened + Send + Sync, R: Threads + Wait + Abort + Sync>(
     requires logbook { (L.logbook ≡ logbook) × (L.callers ≡ 2) }
     requires opening { L.opening ≡ opening_of begun }
     requires put { (put.sent ≡ []) × (L.pipe ≡ put.pipe) × (L.takers ≡ put.takers) × (L.room ≡ put.room) }
+    requires keep { L.keep ≡ keeps.Events }
 {
-    let mut callers = share::<L>(alloc, logbook, begun, put, 2)?;
+    let mut callers = share::<L>(alloc, logbook, begun, put, 2, Keep::Events)?;
     assert!(rt;
         begins(rt, alloc, callers.as_mut_slice()),
         "the walker waits"

@@ -138,6 +138,7 @@ fn two_at_once<R: Threads + Wait + Abort + Sync>(
         rounds: 1,
         breaks: 0,
         capacity,
+        watched: false,
     };
     let opening = world_and_ends(alloc, b"* srv:/any")?;
     let ran = run_with(

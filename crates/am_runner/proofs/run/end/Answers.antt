@@ -19,8 +19,8 @@ gather-requires-clause-pipe g c =
     subst (λ (p : TableId). All (λ (taker : Taker). taker.pipe ≡ p) takers) (sym pipe)
     (all_of_pipe g.L.Opened.pipe takers take.working take.serves)
 
-pub returns : goal.returns
-returns g c =
+pub returns-clause-run : goal.returns-clause-run
+returns-clause-run g c =
     let takers = c.args.back.takers.items in
     let callers = c.args.back.callers.items in
     let s = c.gather-gathered.result.shared in
@@ -37,6 +37,7 @@ returns g c =
           c.gather-gathered.ensures.shared c.gather-gathered.ensures.put.0 c.requires.take
           c.gather-gathered.ensures.matched
           (c.packets_are_taken_left_or_unsent.ensures s notes c.into_parts-put.ensures.shared as_put once)
-          (c.gather-gathered.ensures.put.2 ∙ c.requires.room),
+          (c.gather-gathered.ensures.put.2 ∙ c.requires.room)
+          (c.gather-gathered.ensures.keep ∙ c.requires.keep),
       gave_at g.F.FnOnce c.judge-found.ensures refl,
     )

@@ -1,5 +1,5 @@
 use Rattle.am_shared.specs.{opening_of}
-use Rattle.am_runner.specs.{plan_of}
+use Rattle.am_runner.specs.{keep_of, plan_of}
 use Rattle.am_runner.proofs.run.run_with.Given as goal
 
 abbrev pub ghosts-run_among-L-Planned : goal.ghosts-run_among-L-Planned
@@ -13,4 +13,5 @@ ghosts-run_among-L-Opened g a = record {
   room = a.start.put.room;
   logbook = a.start.logbook;
   callers = a.start.callers;
+  keep = keep_of a.run.watched;
 }

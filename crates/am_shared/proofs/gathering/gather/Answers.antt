@@ -5,6 +5,7 @@ use Rattle.am_shared.specs.Calls.{all_calls, calls_of}
 use Rattle.am_shared.specs.Chronicle.{AreIn, weigh, weigh_to}
 use Rattle.am_shared.specs.Passes.{view_of}
 use Rattle.am_shared.proofs.CallLemmas.{all_calls_agree, all_match, all_snoc, at_most, counts, each_rise_snoc}
+use Rattle.am_shared.proofs.MatchLemmas.{all_but_last, each_agree_left}
 use Rattle.am_shared.proofs.gathering.gather.Goals as goal
 
 pub returns-clause-count : goal.returns-clause-count
@@ -14,13 +15,15 @@ returns-clause-count g c =
     let rs = c.last.inside.receipts.items in
     let is : (view_of c.are_matched-is_matched.new.calling).mine ≡ calls_of rs =
     c.are_matched-is_matched.ensures.caller.1 ∙ c.last.invariant.1 in
-    let all : c.args.callers.items ≡ cs ++ rs ∷ [] = search rules in
+    let was : c.pop.result ≡ Some c.in-Some.last = search rules in
+    let all : c.args.callers.items ≡ cs ++ rs ∷ [] =
+    all_but_last c.args.callers.items cs c.pop.result c.in-Some.last rs c.pop.ensures.items was c.last.view_is in
     let calls = ap (λ l. all_calls cs ++ l) is ∙ sym (all_snoc cs rs) in
     let once : (f : ℕ → ℕ) → weigh f (all_calls (cs ++ rs ∷ [])) ≡ weigh_to f (length h) =
     λ f. sym (ap (weigh f) calls) ∙ c.take-shared.ensures.once f in
     let count : length h ≡ count_in c.args.callers.items =
     counts (length h) (cs ++ rs ∷ []) once ∙ sym (ap count_in all) in
-    (ap length c.history.ensures.history ∙ count, count)
+    (c.count-count.ensures ∙ count, count)
 
 pub returns-clause-matched : goal.returns-clause-matched
 returns-clause-matched g c =
@@ -29,7 +32,9 @@ returns-clause-matched g c =
     let rs = c.last.inside.receipts.items in
     let is : (view_of c.are_matched-is_matched.new.calling).mine ≡ calls_of rs =
     c.are_matched-is_matched.ensures.caller.1 ∙ c.last.invariant.1 in
-    let all : c.args.callers.items ≡ cs ++ rs ∷ [] = search rules in
+    let was : c.pop.result ≡ Some c.in-Some.last = search rules in
+    let all : c.args.callers.items ≡ cs ++ rs ∷ [] =
+    all_but_last c.args.callers.items cs c.pop.result c.in-Some.last rs c.pop.ensures.items was c.last.view_is in
     let calls = ap (λ l. all_calls cs ++ l) is ∙ sym (all_snoc cs rs) in
     let rise : EachRise (cs ++ rs ∷ []) =
     each_rise_snoc cs rs c.take-shared.ensures.rise c.last.invariant.2 in
@@ -45,7 +50,9 @@ returns-clause-test g c =
     let rs = c.last.inside.receipts.items in
     let is : (view_of c.are_matched-is_matched.new.calling).mine ≡ calls_of rs =
     c.are_matched-is_matched.ensures.caller.1 ∙ c.last.invariant.1 in
-    let all : c.args.callers.items ≡ cs ++ rs ∷ [] = search rules in
+    let was : c.pop.result ≡ Some c.in-Some.last = search rules in
+    let all : c.args.callers.items ≡ cs ++ rs ∷ [] =
+    all_but_last c.args.callers.items cs c.pop.result c.in-Some.last rs c.pop.ensures.items was c.last.view_is in
     let calls = ap (λ l. all_calls cs ++ l) is ∙ sym (all_snoc cs rs) in
     let once : (f : ℕ → ℕ) → weigh f (all_calls (cs ++ rs ∷ [])) ≡ weigh_to f (length h) =
     λ f. sym (ap (weigh f) calls) ∙ c.take-shared.ensures.once f in
@@ -67,6 +74,7 @@ returns-clause-test g c =
     λ i. sym front i ++ sym last i ∷ [] in
     test.2.1 (
       in_order,
-      subst (λ (l : List (List Receipt)). EachAgree (test.0).history l) both
-          (subst (λ (l : List Entry). EachAgree l (cs ++ rs ∷ [])) same agree),
+      each_agree_left (test.0).history (test.0).taken _
+          (subst (λ (l : List (List Receipt)). EachAgree (test.0).history l) both
+          (subst (λ (l : List Entry). EachAgree l (cs ++ rs ∷ [])) same agree)),
     )

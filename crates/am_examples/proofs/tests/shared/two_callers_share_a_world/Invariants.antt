@@ -1,4 +1,5 @@
 use Rattle.am_shared.specs.{opening_of}
+use Rattle.am_shared.specs.declared.keep.Keep.TheVariants.{Events}
 use Rattle.am_examples.proofs.tests.shared.two_callers_share_a_world.Given as goal
 
 abbrev pub ghosts-plays : goal.ghosts-plays
@@ -9,4 +10,5 @@ ghosts-plays g a = record {
   room = a.put.room;
   logbook = a.logbook;
   callers = 2;
+  keep = Events;
 }

@@ -10,5 +10,5 @@ returns-clause-lent g c =
     let lent = c.lend.ensures.lent in
     let calls = c.self.invariant.1 ∙ ap calls_of c.self.view_is in
     let agree = calls_agree lent.0.history c.args.self.now
-    (subst (λ (l : List (ℕ × Entry)). AreIn lent.0.history l) calls lent.3) in
-    (lent.0, lent.2, agree, lent.4)
+    (subst (λ (l : List (ℕ × Entry)). AreIn lent.0.history l) calls lent.4) in
+    (lent.0, lent.2, lent.3, agree, lent.5)

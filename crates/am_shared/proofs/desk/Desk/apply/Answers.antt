@@ -1,6 +1,6 @@
 use Rattle.std.proofs.Common.{◌≡◌, ◌-◌, List, [], ◌∷◌, ◌++◌, Some, slice_get, length, rules, sym, ap, ◌∙◌, subst}
 use Rattle.am_machine.specs.{Entry, entry}
-use Rattle.am_shared.specs.{Known}
+use Rattle.am_shared.specs.{Known, left_of}
 use Rattle.am_shared.specs.Chronicle.{AreIn, keeper}
 use Rattle.am_shared.specs.Passes.{view_of}
 use Rattle.am_shared.proofs.ApplyLemmas.{kept_opening}
@@ -14,13 +14,13 @@ invariant_of-self-2 g c =
     let position = c.in_ok-made.made.position in
     let answer = c.in_ok-made.made.answer in
     let there : c.self.inside.shared ≡ Some old = search rules in
-    let kept = kept_of _ _ _ _ _ _ _ old there c.self.invariant.3 in
+    let kept = kept_of _ _ _ _ _ _ _ _ old there c.self.invariant.3 in
     let applied = c.in_ok-made.ensures.one in
     let last = c.in-Some-last.last.now in
     let at : slice_get c.history.result.now (length c.history.result.now - 1) ≡ Some last = search rules in
     let is : last ≡ entry c.args.event answer =
-    last_is old.history c.history.result.now (entry c.args.event answer) last
-    (c.history.ensures.history ∙ applied.history) at in
+    last_is (left_of old) c.history.result.now (entry c.args.event answer) last
+    (c.history.ensures.left ∙ applied.left) at in
     let k = c.record.ensures.keeper in
     let view : view_of c.record.new.keeping ≡ keeper g.L.Opened.callers new.history =
     k.1 ∙ (λ i. keeper (kept.0 i).made ((kept.0 i).all ++ is i ∷ []))
@@ -34,6 +34,7 @@ invariant_of-self-2 g c =
         applied.put.pipe ∙ kept.2,
         applied.put.takers ∙ kept.3,
         applied.put.room ∙ kept.4,
+        applied.keep ∙ kept.5,
       ),
     )
 
@@ -41,7 +42,7 @@ pub returns-clause-ok : goal.returns-clause-ok
 returns-clause-ok g c =
     let old = c.in-Some.shared.now in
     let there : c.self.inside.shared ≡ Some old = search rules in
-    let kept = kept_of _ _ _ _ _ _ _ old there c.self.invariant.3 in
+    let kept = kept_of _ _ _ _ _ _ _ _ old there c.self.invariant.3 in
     let mine = (view_of c.args.calling.now).mine in
     stands_last g.L.Opened.opening old c.apply_with.new.self c.args.event c.in_ok-made.made.position
     c.in_ok-made.made.answer mine c.in_ok-made.ensures.one c.history.ensures.shared kept.1

@@ -11,13 +11,13 @@ use Rattle.am_shared.proofs.desk.Desk.take.Goals as goal
 pub returns-clause-shared : goal.returns-clause-shared
 returns-clause-shared g c =
     let there : c.self.inside.shared ≡ Some c.in-Some.shared = search rules in
-    let kept = kept_of _ _ _ _ _ _ _ c.in-Some.shared there c.self.invariant.3 in
+    let kept = kept_of _ _ _ _ _ _ _ _ c.in-Some.shared there c.self.invariant.3 in
     shared_from g.L.Opened.opening c.in-Some.shared c.history-history.ensures.shared kept.1
 
 pub returns-clause-calls : goal.returns-clause-calls
 returns-clause-calls g c =
     let there : c.self.inside.shared ≡ Some c.in-Some.shared = search rules in
-    let kept = kept_of _ _ _ _ _ _ _ c.in-Some.shared there c.self.invariant.3 in
+    let kept = kept_of _ _ _ _ _ _ _ _ c.in-Some.shared there c.self.invariant.3 in
     let calls = all_calls c.args.callers.items in
     let theirs = (view_of c.args.last).mine in
     let keeper = c.hand_in.ensures.keeper.1 in
@@ -31,7 +31,7 @@ returns-clause-calls g c =
 pub returns-clause-once : goal.returns-clause-once
 returns-clause-once g c f =
     let there : c.self.inside.shared ≡ Some c.in-Some.shared = search rules in
-    let kept = kept_of _ _ _ _ _ _ _ c.in-Some.shared there c.self.invariant.3 in
+    let kept = kept_of _ _ _ _ _ _ _ _ c.in-Some.shared there c.self.invariant.3 in
     let calls = all_calls c.args.callers.items in
     let theirs = (view_of c.args.last).mine in
     let keeper = c.hand_in.ensures.keeper.1 in

@@ -1,4 +1,5 @@
 use Rattle.am_shared.specs.{opening_of}
+use Rattle.am_shared.specs.declared.keep.Keep.TheVariants.{Events}
 use Rattle.am_thread_tests.proofs.tests.callers.plays_once.Given as goal
 
 abbrev pub ghosts-played : goal.ghosts-played
@@ -9,4 +10,5 @@ ghosts-played g a = record {
   room = a.put.room;
   logbook = a.logbook;
   callers = a.callers;
+  keep = Events;
 }

@@ -1,4 +1,5 @@
 use Rattle.am_shared.specs.{opening_of}
+use Rattle.am_shared.specs.declared.keep.Keep.TheVariants.{All}
 use Rattle.am_thread_tests.proofs.tests.crowds.a_crowd.Given as goal
 
 abbrev pub ghosts-crowd : goal.ghosts-crowd
@@ -9,4 +10,5 @@ ghosts-crowd g a = record {
   room = a.put.room;
   logbook = a.logbook;
   callers = a.size.threads;
+  keep = All;
 }

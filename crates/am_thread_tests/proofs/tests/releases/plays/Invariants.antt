@@ -1,4 +1,5 @@
 use Rattle.am_shared.specs.{opening_of}
+use Rattle.am_shared.specs.declared.keep.Keep.TheVariants.{Events}
 use Rattle.am_thread_tests.proofs.tests.releases.plays.Given as goal
 
 abbrev pub ghosts-released : goal.ghosts-released
@@ -9,4 +10,5 @@ ghosts-released g a = record {
   room = a.put.room;
   logbook = a.logbook;
   callers = 2;
+  keep = Events;
 }

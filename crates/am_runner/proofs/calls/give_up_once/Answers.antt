@@ -1,0 +1,25 @@
+use Rattle.std.proofs.Common.{IfOk, OnErr, refl, sym, subst, ◌∙◌}
+use Rattle.am_machine.specs.declared.event.Event.TheVariants.{AdminCatatonic}
+use Rattle.am_runner.specs.{Adds, IsCall, Makes, RanOut}
+use Rattle.am_runner.proofs.CallLemmas.{called_err, called_ok}
+use Rattle.am_runner.proofs.calls.give_up_once.Goals as goal
+
+pub returns-clause-ok : goal.returns-clause-ok
+returns-clause-ok g c =
+    let event = AdminCatatonic c.args.fs in
+    let old = c.args.caller.now in
+    let now = c.give_up.new.self in
+    subst (λ r. IfOk r (λ reply. Makes (IsCall event reply) old now)) (sym c.ok_or.ensures.value)
+    (called_ok record {} g.L.Opened.opening c.give_up.result event event c.reply_to.result
+    c.in-Some.receipt.now old now (sym c.is_err.ensures.value ∙ c.if-is_err.false) c.give_up.ensures.ok
+    refl c.in-Some.ensures c.reply_to.ensures)
+
+pub returns-clause-err : goal.returns-clause-err
+returns-clause-err g c =
+    let event = AdminCatatonic c.args.fs in
+    let old = c.args.caller.now in
+    let now = c.give_up.new.self in
+    subst (λ r. OnErr r (Adds (RanOut event) old now)) (sym c.ok_or.ensures.value)
+    (called_err record {} g.L.Opened.opening c.give_up.result event event c.reply_to.result
+    c.in-Some.receipt.now old now (sym c.is_err.ensures.value ∙ c.if-is_err.false) c.give_up.ensures.ok
+    refl c.in-Some.ensures c.reply_to.ensures)
