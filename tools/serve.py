@@ -455,10 +455,6 @@ class Listener:
         self.child = subprocess.Popen(["sh", "-c", "exec " + command], env={**os.environ, "PATH": path}, stderr=subprocess.DEVNULL)
 
     def __enter__(self):
-        for _ in range(100):
-            if os.path.exists(self.where):
-                break
-            time.sleep(0.05)
         return self
 
     def __exit__(self, *_):
@@ -466,9 +462,15 @@ class Listener:
         self.child.wait()
 
     def connected(self):
+        """A connection, which may have to wait until the socket is there."""
         end = socket.socket(socket.AF_UNIX)
         end.settimeout(PATIENCE)
-        end.connect(self.where)
+        for _ in range(20 * PATIENCE):
+            try:
+                end.connect(self.where)
+                break
+            except (FileNotFoundError, ConnectionRefusedError):
+                time.sleep(0.05)
         return end
 
 

@@ -66,8 +66,8 @@ is_left obs = false
 
 -- A run over a world that began with this opening: the history is that of a single thread, and each of its entries is
 -- the receipt, once, of one of those who took part. What their ends of the pipe took, these notes, which are left in it,
--- and what waits for room in it are the packets of the trace, each once. The pipe has as much room as was asked for, and as much is
--- kept.
+-- and what waits for room in it are the packets of the trace, each once. The pipe has as much room as was asked for, and
+-- as much is kept.
 pub record IsRun (opening : Setup) (plan : Plan) (workers : ℕ) (left : List (ℕ × Note)) (s : Sharing) : Type 0 where
   pub from : IsSharedFrom opening s
   pub callers : List (List Receipt)
