@@ -7,7 +7,7 @@ use Rattle.std.specs.Prelude.{◌-◌, length, slice_get}
 use Rattle.std.specs.Option.{ok_or}
 use Rattle.std.specs.Result.{is_err}
 use Rattle.am_machine.specs.{Answer, Event, Setup}
-use Rattle.am_shared.specs.{Receipt, Receives}
+use Rattle.am_shared.specs.{Account, Receipt, Receives}
 use Rattle.am_runner.specs.{Reply, Adds, Makes, IsOf, RanOut, IsCall, AreMany, reply_of}
 
 pub match_true : (b : Bool) (P Q : Type 0) → b ≡ true → MatchBool b P Q → P
@@ -162,31 +162,32 @@ replies_err e event (Some reply) position answer last a b behind at is = tt
 replies_err e event None position answer last a b behind at is =
     ran_made event position answer last a b behind at (sym is)
 
-received_behind : (opening : Setup) (sent event : Event) (position : ℕ) (a b : List Receipt)
+received_behind : (opening : Setup) (sent event : Event) (position : ℕ) (a b : Account)
     → sent ≡ event → (r : Receives opening a b sent position)
-    → b ≡ a ++ record { position = position; event = event; answer = r.answer } ∷ []
+    → b.receipts ≡ a.receipts ++ record { position = position; event = event; answer = r.answer } ∷ []
 received_behind opening sent event position a b is r =
-    r.receipt ∙ ap (λ (x : Event). a ++ record { position = position; event = x; answer = r.answer } ∷ []) is
+    r.receipt
+    ∙ ap (λ (x : Event). a.receipts ++ record { position = position; event = x; answer = r.answer } ∷ []) is
 
 -- a call that was made, by what is made of the last receipt
 pub called_ok : {E U : Type 0} (e : E) (opening : Setup) (outcome : Result ℕ U) (sent event : Event)
-    (o : Option Reply) (last : Receipt) (a b : List Receipt) → is_err outcome ≡ false
+    (o : Option Reply) (last : Receipt) (a b : Account) → is_err outcome ≡ false
     → IfOk outcome (λ position. Receives opening a b sent position) → sent ≡ event
-    → Some last ≡ slice_get b (length b - 1) → o ≡ reply_of last.answer
-    → IfOk (ok_or o e) (λ reply. Makes (IsCall event reply) a b)
+    → Some last ≡ slice_get b.receipts (length b.receipts - 1) → o ≡ reply_of last.answer
+    → IfOk (ok_or o e) (λ reply. Makes (IsCall event reply) a.receipts b.receipts)
 called_ok e opening (Ok position) sent event o last a b made received is at replies =
-    replies_ok e event o position received.answer last a b
+    replies_ok e event o position received.answer last a.receipts b.receipts
     (received_behind opening sent event position a b is received) at replies
 called_ok e opening (Err u) sent event o last a b made received is at replies =
     absurd (false≢true (sym made))
 
 pub called_err : {E U : Type 0} (e : E) (opening : Setup) (outcome : Result ℕ U) (sent event : Event)
-    (o : Option Reply) (last : Receipt) (a b : List Receipt) → is_err outcome ≡ false
+    (o : Option Reply) (last : Receipt) (a b : Account) → is_err outcome ≡ false
     → IfOk outcome (λ position. Receives opening a b sent position) → sent ≡ event
-    → Some last ≡ slice_get b (length b - 1) → o ≡ reply_of last.answer
-    → OnErr (ok_or o e) (Adds (RanOut event) a b)
+    → Some last ≡ slice_get b.receipts (length b.receipts - 1) → o ≡ reply_of last.answer
+    → OnErr (ok_or o e) (Adds (RanOut event) a.receipts b.receipts)
 called_err e opening (Ok position) sent event o last a b made received is at replies =
-    replies_err e event o position received.answer last a b
+    replies_err e event o position received.answer last a.receipts b.receipts
     (received_behind opening sent event position a b is received) at replies
 called_err e opening (Err u) sent event o last a b made received is at replies =
     absurd (false≢true (sym made))

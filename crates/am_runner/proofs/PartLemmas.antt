@@ -8,24 +8,25 @@ use Rattle.am_machine.specs.{Answer}
 use Rattle.am_machine.specs.declared.event.Event.TheVariants as events
 use Rattle.am_machine.specs.declared.answer.Answer.TheVariants as answers
 use Rattle.am_pipe.specs.{Note, Taker}
-use Rattle.am_shared.specs.{Receipt}
+use Rattle.am_shared.specs.{Account, Receipt}
 use Rattle.am_runner.proofs.CallLemmas.{last_made}
-use Rattle.am_runner.specs.{AreEach, AreMany, AreWalkers, AreWorkers, IsAttached, IsBreak, IsBreaker, IsExpirer, IsExpiry, IsRound, IsWalker, IsWorker, Makes, Plan, Serves, WalksAlong, walk}
+use Rattle.am_runner.specs.{AreEach, AreMany, AreWalkers, AreWorkers, IsAttached, IsBreak, IsBreaker, IsExpirer}
+use Rattle.am_runner.specs.{IsExpiry, IsRound, IsWalker, IsWorker, Makes, Plan, Serves, WalksAlong, walk}
 
 -- one more walker behind these
-pub walkers_more : (plan : Plan) (first : ℕ) (before : List (List Receipt)) (number : ℕ)
-    (made : List Receipt) → AreWalkers plan first before → number ≡ first + length before
-    → IsWalker plan number made → AreWalkers plan first (before ++ made ∷ [])
+pub walkers_more : (plan : Plan) (first : ℕ) (before : List Account) (number : ℕ)
+    (made : Account) → AreWalkers plan first before → number ≡ first + length before
+    → IsWalker plan number made.receipts → AreWalkers plan first (before ++ made ∷ [])
 walkers_more plan first [] number made are is one =
     let at : number ≡ first = omega (arith, is) in
-    (subst (λ n. IsWalker plan n made) at one, tt)
+    (subst (λ n. IsWalker plan n made.receipts) at one, tt)
 walkers_more plan first (x ∷ before) number made (this, rest) is one =
     (this, walkers_more plan (first + 1) before number made rest (omega (arith, is)) one)
 
 -- one more worker behind these
-pub workers_more : (pipe : TableId) (takers : List Taker) (before : List (List Receipt))
-    (taker : Taker) (made : List Receipt) → AreWorkers pipe takers before
-    → IsWorker pipe taker made → AreWorkers pipe (takers ++ taker ∷ []) (before ++ made ∷ [])
+pub workers_more : (pipe : TableId) (takers : List Taker) (before : List Account)
+    (taker : Taker) (made : Account) → AreWorkers pipe takers before
+    → IsWorker pipe taker made.receipts → AreWorkers pipe (takers ++ taker ∷ []) (before ++ made ∷ [])
 workers_more pipe [] [] taker made are one = (one, tt)
 workers_more pipe (t ∷ takers) (m ∷ before) taker made (this, rest) one =
     (this, workers_more pipe takers before taker made rest one)
@@ -33,17 +34,17 @@ workers_more pipe [] (m ∷ before) taker made are one = absurd are
 workers_more pipe (t ∷ takers) [] taker made are one = absurd are
 
 -- the same of lists that are known to be longer by one
-pub workers_behind : (pipe : TableId) (takers takers' : List Taker) (before before' : List (List Receipt))
-    (taker : Taker) (made : List Receipt) → takers' ≡ takers ++ taker ∷ []
-    → before' ≡ before ++ made ∷ [] → AreWorkers pipe takers before → IsWorker pipe taker made
+pub workers_behind : (pipe : TableId) (takers takers' : List Taker) (before before' : List Account)
+    (taker : Taker) (made : Account) → takers' ≡ takers ++ taker ∷ []
+    → before' ≡ before ++ made ∷ [] → AreWorkers pipe takers before → IsWorker pipe taker made.receipts
     → AreWorkers pipe takers' before'
 workers_behind pipe takers takers' before before' taker made e f are one =
     subst (λ (ts : List Taker). AreWorkers pipe ts before') (sym e)
-    (subst (λ (ms : List (List Receipt)). AreWorkers pipe (takers ++ taker ∷ []) ms) (sym f)
+    (subst (λ (ms : List Account). AreWorkers pipe (takers ++ taker ∷ []) ms) (sym f)
     (workers_more pipe takers before taker made are one))
 
 -- there is an end of the pipe for each worker
-pub as_many : (pipe : TableId) (takers : List Taker) (working : List (List Receipt))
+pub as_many : (pipe : TableId) (takers : List Taker) (working : List Account)
     → AreWorkers pipe takers working → length takers ≡ length working
 as_many pipe [] [] are = refl
 as_many pipe (t ∷ takers) (m ∷ working) (this, rest) = ap suc (as_many pipe takers working rest)
@@ -51,7 +52,7 @@ as_many pipe [] (m ∷ working) are = absurd are
 as_many pipe (t ∷ takers) [] are = absurd are
 
 -- these are all of the same pipe
-pub all_of_pipe : (pipe : TableId) (takers : List Taker) (working : List (List Receipt))
+pub all_of_pipe : (pipe : TableId) (takers : List Taker) (working : List Account)
     → AreWorkers pipe takers working → All (λ taker. taker.pipe ≡ pipe) takers
 all_of_pipe pipe [] [] are = All-nil (λ (taker : Taker). taker.pipe ≡ pipe)
 all_of_pipe pipe (t ∷ takers) (m ∷ working) (this, rest) =

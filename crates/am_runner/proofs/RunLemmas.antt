@@ -1,19 +1,20 @@
 -- What a run comes to when all are back.
-use Rattle.std.proofs.Common.{◌≡◌, ℕ, ◌*◌, Bor, List, ◌++◌, Option, Some, None, Ok, IfSome, All, ap, sym, subst, true, arith}
+use Rattle.std.proofs.Common.{◌≡◌, ℕ, ◌*◌, Bor, List, ◌++◌, Option, Some, None, Ok, IfSome, All, ap, sym, subst, true}
+use Rattle.std.proofs.Common.{arith}
 use Rattle.std.proofs.lemmas.List.Elements.{All-pop}
 use Rattle.std.specs.Option.{ok_or}
 use Rattle.std.specs.Prelude.{option_to_list}
 use Rattle.atomic_table.specs.Seated.{TableId}
 use Rattle.am_machine.specs.{Setup}
 use Rattle.am_pipe.specs.{Note, Taker, taken_by}
-use Rattle.am_shared.specs.{AreThePackets, IsSharedFrom, Matches, Receipt, keeps_events, waiting}
+use Rattle.am_shared.specs.{Account, AreThePackets, IsSharedFrom, Matches, keeps_events, waiting}
 use Rattle.am_shared.specs.Sharing.{Sharing}
 use Rattle.am_runner.specs.{IsAuto, IsRun, IsTally, Plan, Tally, TakePart, auto_plan, keep_of}
 use Rattle.am_runner.specs.Runs.{IsTallyOf}
 
 -- the history of a run is the merge of what each made who took part
 pub run_of : (opening : Setup) (plan : Plan) (pipe : TableId) (workers : ℕ) (s : Sharing)
-    (takers : List Taker) (callers : List (List Receipt)) (left : List (ℕ × Note))
+    (takers : List Taker) (callers : List Account) (left : List (ℕ × Note))
     → IsSharedFrom opening s → s.put.pipe ≡ pipe → TakePart plan pipe workers takers callers
     → Matches s.history callers → AreThePackets s ((taken_by takers ++ left) ++ waiting s)
     → s.put.room ≡ plan.capacity → s.keep ≡ keep_of plan.watched → IsRun opening plan workers left s
@@ -49,6 +50,7 @@ tally_of_run walkers workers rounds n opening left tally is_auto many asked (s, 
   shared = s;
   left = left;
   run = subst (λ k. IsRun opening (auto_plan walkers rounds) k left s) many run;
-  tally_is = subst (λ (y : Sharing). keeps_events y.keep ≡ true → IsTallyOf tally y) same told (ap keeps_events run.keep);
+  tally_is = subst (λ (y : Sharing). keeps_events y.keep ≡ true → IsTallyOf tally y) same told
+      (ap keeps_events run.keep);
   asked = asked;
 }

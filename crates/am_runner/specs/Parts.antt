@@ -1,13 +1,14 @@
 -- Who takes part in a run, and what each of them makes: own choice (docs/DECISIONS.md, "A run says who
 -- takes part").
-use Rattle.std.specs.Prelude.{◌≡◌, ℕ, Bool, true, false, ◌+◌, ◌-◌, ◌%◌, List, [], ◌∷◌, ◌++◌, All, length, map, Some, Ok, if◌then◌else◌, nat_lt, slice_get}
+use Rattle.std.specs.Prelude.{◌≡◌, ℕ, Bool, true, false, ◌+◌, ◌-◌, ◌%◌, List, [], ◌∷◌, ◌++◌, All, length, map, Some, Ok}
+use Rattle.std.specs.Prelude.{if◌then◌else◌, nat_lt, slice_get}
 use Rattle.std.specs.List.{AllZip}
 use Rattle.atomic_table.specs.Seated.{TableId}
 use Rattle.am_names.specs.{path_read}
 use Rattle.am_machine.specs.declared.event.Event.TheVariants.{Attach}
 use Rattle.am_machine.specs.declared.answer.Answer.TheVariants.{Attached}
 use Rattle.am_pipe.specs.{Taker}
-use Rattle.am_shared.specs.{Keep, Receipt}
+use Rattle.am_shared.specs.{Account, Keep, Receipt}
 use Rattle.am_shared.specs.declared.keep.Keep.TheVariants as keeps
 use Rattle.am_runner.specs.declared.plan.Run.{Run}
 use Rattle.am_runner.specs.Calls.{AreMany, Makes}
@@ -72,40 +73,44 @@ pub record IsWalker (plan : Plan) (number : ℕ) (made : List Receipt) : Type 0 
   pub rounds : AreMany (IsRound (walk number path) number) plan.rounds made
 
 -- these are walkers, numbered from here on
-abbrev pub AreWalkers : Plan → ℕ → List (List Receipt) → Type 0
+abbrev pub AreWalkers : Plan → ℕ → List Account → Type 0
 AreWalkers plan number [] = Unit {0}
-AreWalkers plan number (made ∷ rest) = IsWalker plan number made × AreWalkers plan (number + 1) rest
+AreWalkers plan number (caller ∷ rest) = IsWalker plan number caller.receipts × AreWalkers plan (number + 1) rest
 
 -- the daemon dies as often as it is to, and attaches again each time
 abbrev pub IsBreaker : Plan → ℕ → List Receipt → Type 0
 IsBreaker plan fs made = AreMany (IsBreak fs) plan.breaks made
+
+-- each of these lets it die so
+abbrev pub AreBreakers : Plan → ℕ → List Account → Type 0
+AreBreakers plan fs breaking = All (λ caller. IsBreaker plan fs caller.receipts) breaking
 
 -- a worker serves the notes that its own end of the pipe took
 abbrev pub IsWorker : TableId → Taker → List Receipt → Type 0
 IsWorker pipe taker made = (taker.pipe ≡ pipe) × AreEach IsService taker.got made
 
 -- each of these is one
-abbrev pub AreWorkers : TableId → List Taker → List (List Receipt) → Type 0
-AreWorkers pipe takers working = AllZip (IsWorker pipe) takers working
+abbrev pub AreWorkers : TableId → List Taker → List Account → Type 0
+AreWorkers pipe takers working = AllZip (λ taker caller. IsWorker pipe taker caller.receipts) takers working
 
 -- who lets the daemon die, if it is to
 abbrev pub breakers : ℕ → ℕ
 breakers breaks = if nat_lt 0 breaks then 1 else 0
 
--- Those who take part in a run, with the receipts of each: one who expires, the walkers, who lets the daemon die, if it
+-- Those who take part in a run, with the account of each: one who expires, the walkers, who lets the daemon die, if it
 -- is to, and so many workers, with the end of this pipe of each.
 pub record TakePart (plan : Plan) (pipe : TableId) (workers : ℕ) (takers : List Taker)
-    (callers : List (List Receipt)) : Type 0 where
+    (callers : List Account) : Type 0 where
   pub fs : ℕ
-  pub expirer : List Receipt
-  pub walking : List (List Receipt)
-  pub breaking : List (List Receipt)
-  pub working : List (List Receipt)
+  pub expirer : Account
+  pub walking : List Account
+  pub breaking : List Account
+  pub working : List Account
   pub in_turn : callers ≡ expirer ∷ walking ++ breaking ++ working
-  pub expires : IsExpirer plan fs expirer
+  pub expires : IsExpirer plan fs expirer.receipts
   pub walks : AreWalkers plan 1 walking
   pub all_walk : length walking ≡ plan.walkers
-  pub breaks : All (IsBreaker plan fs) breaking
+  pub breaks : AreBreakers plan fs breaking
   pub all_break : length breaking ≡ breakers plan.breaks
   pub serves : AreWorkers pipe takers working
   pub all_serve : length working ≡ workers

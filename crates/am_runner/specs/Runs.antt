@@ -13,7 +13,7 @@ use Rattle.am_machine.specs.declared.event.Event.TheVariants.{Leave, Walk}
 use Rattle.am_machine.specs.declared.answer.Answer.TheVariants.{At, Done, Refused}
 use Rattle.am_pipe.specs.{Note, Taker, taken_by}
 use Rattle.am_shared.specs.Sharing.{Sharing}
-use Rattle.am_shared.specs.{AreThePackets, IsSharedFrom, Matches, Receipt, waiting}
+use Rattle.am_shared.specs.{Account, AreThePackets, IsSharedFrom, Matches, waiting}
 use Rattle.am_runner.specs.Parts.{Plan, TakePart, keep_of}
 use Rattle.am_runner.specs.declared.tally.Tally.{Tally}
 
@@ -65,12 +65,12 @@ is_left (Left walker mount) = true
 is_left obs = false
 
 -- A run over a world that began with this opening: the history is that of a single thread, and each of its entries is
--- the receipt, once, of one of those who took part. What their ends of the pipe took, these notes, which are left in it,
--- and what waits for room in it are the packets of the trace, each once. The pipe has as much room as was asked for, and
--- as much is kept.
+-- the receipt, once, of one of those who took part. What their ends of the pipe took, these notes, which are left in
+-- it, and what waits for room in it are the packets of the trace, each once. The pipe has as much room as was asked
+-- for, and as much is kept.
 pub record IsRun (opening : Setup) (plan : Plan) (workers : ℕ) (left : List (ℕ × Note)) (s : Sharing) : Type 0 where
   pub from : IsSharedFrom opening s
-  pub callers : List (List Receipt)
+  pub callers : List Account
   pub takers : List Taker
   pub take_part : TakePart plan s.put.pipe workers takers callers
   pub matched : Matches s.history callers

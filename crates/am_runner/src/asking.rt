@@ -1,7 +1,7 @@
 //! Who asks the world for something, each in a thread: who expires, walkers, and who lets the daemon die.
 
 ghost use Rattle.std.specs.Prelude.{◌≡◌, [], All, IfOk};
-ghost use Rattle.am_runner.specs.Parts.{AreWalkers, IsBreaker, IsExpirer, plan_of};
+ghost use Rattle.am_runner.specs.Parts.{AreBreakers, AreWalkers, IsExpirer, plan_of};
 
 use crate::parts::{Attached, Broke, Common, Expired, Walked, breaks, expires, walks};
 use crate::plan::Planned;
@@ -46,12 +46,12 @@ fn start_walking<'s, E, L: Planned + Send + Sync + 's, G: Sync, R: Wait + Sync>(
     number: u32,
     common: &'s Common<'s, 's, G>,
 ) -> Option<JoinHandle<Result<Walked<L>, AllocError>>>
-    requires { (caller ≡ []) × (L.plan ≡ plan_of common.now.run) }
+    requires { (caller.receipts ≡ []) × (L.plan ≡ plan_of common.now.run) }
 {
     scope
         .spawn(
             move || -> Result<Walked<L>, AllocError>
-                requires { (caller ≡ []) × (L.plan ≡ plan_of common.now.run) }
+                requires { (caller.receipts ≡ []) × (L.plan ≡ plan_of common.now.run) }
             { walks(rt, alloc, caller, number, common) },
         )
         .ok()
@@ -65,9 +65,9 @@ fn start_breaking<'s, E, L: Planned + Send + Sync + 's, G: Sync, R: Wait + Sync>
     callers: &mut Vec<Caller<L>>,
     common: &'s Common<'s, 's, G>,
 ) -> Option<JoinHandle<Result<Broke<L>, AllocError>>>
-    requires callers { All (λ caller. caller ≡ []) callers.old.items }
+    requires callers { All (λ caller. caller.receipts ≡ []) callers.old.items }
     requires plan { L.plan ≡ plan_of common.now.run }
-    ensures { All (λ caller. caller ≡ []) callers.new.items }
+    ensures { All (λ caller. caller.receipts ≡ []) callers.new.items }
 {
     if common.run.breaks == 0 {
         return None;
@@ -76,7 +76,7 @@ fn start_breaking<'s, E, L: Planned + Send + Sync + 's, G: Sync, R: Wait + Sync>
     scope
         .spawn(
             move || -> Result<Broke<L>, AllocError>
-                requires { (caller ≡ []) × (L.plan ≡ plan_of common.now.run) }
+                requires { (caller.receipts ≡ []) × (L.plan ≡ plan_of common.now.run) }
             { breaks(rt, alloc, caller, common) },
         )
         .ok()
@@ -90,7 +90,7 @@ fn start_walkers<'s, E, L: Planned + Send + Sync + 's, G: Sync, R: Wait + Sync>(
     callers: Vec<Caller<L>>,
     common: &'s Common<'s, 's, G>,
 ) -> Vec<JoinHandle<Result<Walked<L>, AllocError>>>
-    requires callers { All (λ caller. caller ≡ []) callers.items }
+    requires callers { All (λ caller. caller.receipts ≡ []) callers.items }
     requires plan { L.plan ≡ plan_of common.now.run }
 {
     let Ok(mut walking) = Vec::with_capacity(alloc, callers.len()) else {
@@ -142,7 +142,7 @@ fn breakers_back<L: Planned, R: Threads>(
     breaking: Option<JoinHandle<Result<Broke<L>, AllocError>>>,
     fs: FsId,
 ) -> Result<Vec<Caller<L>>, AllocError>
-    ensures { IfOk result (λ back. All (IsBreaker L.plan fs) back.items) }
+    ensures { IfOk result (λ back. AreBreakers L.plan fs back.items) }
 {
     let mut back = Vec::with_capacity(alloc, 1)?;
     if let Some(thread) = breaking {
@@ -161,7 +161,7 @@ fn expirer_back<L: Planned, R: Threads>(
     expiring: Option<JoinHandle<Result<Expired<L>, AllocError>>>,
     fs: FsId,
 ) -> Result<Caller<L>, AllocError>
-    ensures { IfOk result (λ caller. IsExpirer L.plan fs caller) }
+    ensures { IfOk result (λ caller. IsExpirer L.plan fs caller.receipts) }
 {
     let (caller, expired) = expiring.ok_or(AllocError)?.join(rt)?.parts();
     if expired != fs {
@@ -170,8 +170,8 @@ fn expirer_back<L: Planned, R: Threads>(
     Ok(caller)
 }
 
-/// Starts all who ask, and waits for them. Memory ran out where one of them didn't find it, or couldn't be started; then
-/// too none is left that waits for a worker.
+/// Starts all who ask, and waits for them. Memory ran out where one of them didn't find it, or couldn't be started;
+/// then too none is left that waits for a worker.
 pub fn ask_all<'s, E, L: Planned + Send + Sync + 's, G: Sync, R: Threads + Wait + Sync>(
     scope: &Scope<'s, E>,
     rt: &'s R,
@@ -180,11 +180,11 @@ pub fn ask_all<'s, E, L: Planned + Send + Sync + 's, G: Sync, R: Threads + Wait 
     callers: Vec<Caller<L>>,
     common: &'s Common<'s, 's, G>,
 ) -> Result<Asked<L>, AllocError>
-    requires callers { All (λ caller. caller ≡ []) callers.items }
+    requires callers { All (λ caller. caller.receipts ≡ []) callers.items }
     requires plan { L.plan ≡ plan_of common.now.run }
-    ensures expires { IfOk result (λ asked. IsExpirer L.plan asked.fs asked.expirer) }
+    ensures expires { IfOk result (λ asked. IsExpirer L.plan asked.fs asked.expirer.receipts) }
     ensures walks { IfOk result (λ asked. AreWalkers L.plan 1 asked.walkers.items) }
-    ensures breaks { IfOk result (λ asked. All (IsBreaker L.plan asked.fs) asked.breakers.items) }
+    ensures breaks { IfOk result (λ asked. AreBreakers L.plan asked.fs asked.breakers.items) }
 {
     let fs = common.fs;
     let mut callers = callers;

@@ -18,8 +18,8 @@ fn break_once<L: Opened, R: Wait>(
     caller: &mut Caller<L>,
     fs: FsId,
 ) -> Result<(), AllocError>
-    ensures ok { OnOk result (Makes (IsBreak fs) caller.old caller.new) }
-    ensures err { OnErr result (Adds (IsOfBreaker fs) caller.old caller.new) }
+    ensures ok { OnOk result (Makes (IsBreak fs) caller.old.receipts caller.new.receipts) }
+    ensures err { OnErr result (Adds (IsOfBreaker fs) caller.old.receipts caller.new.receipts) }
 {
     call(rt, alloc, caller, &Event::Die)?;
     call(rt, alloc, caller, &Event::AdminCatatonic { fs })?;
@@ -36,8 +36,8 @@ pub fn breaker<L: Opened, R: Wait>(
     fs: FsId,
     rounds: u32,
 ) -> Result<(), AllocError>
-    ensures ok { OnOk result (Makes (AreMany (IsBreak fs) rounds) caller.old caller.new) }
-    ensures err { OnErr result (Adds (IsOfBreaker fs) caller.old caller.new) }
+    ensures ok { OnOk result (Makes (AreMany (IsBreak fs) rounds) caller.old.receipts caller.new.receipts) }
+    ensures err { OnErr result (Adds (IsOfBreaker fs) caller.old.receipts caller.new.receipts) }
 {
     for _made in 0..rounds {
         break_once(rt, alloc, caller, fs)?;

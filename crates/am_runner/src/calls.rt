@@ -97,8 +97,8 @@ fn call_once<L: Opened, R: Wait>(
     caller: &mut Caller<L>,
     event: &Event,
 ) -> Result<Reply, AllocError>
-    ensures ok { IfOk result (λ reply. Makes (IsCall event.now reply) caller.old caller.new) }
-    ensures err { OnErr result (Adds (RanOut event.now) caller.old caller.new) }
+    ensures ok { IfOk result (λ reply. Makes (IsCall event.now reply) caller.old.receipts caller.new.receipts) }
+    ensures err { OnErr result (Adds (RanOut event.now) caller.old.receipts caller.new.receipts) }
 {
     let event = event.copy(alloc)?;
     if caller.call(rt, alloc, event).is_err() {
@@ -118,8 +118,8 @@ pub fn call<L: Opened, R: Wait>(
     caller: &mut Caller<L>,
     event: &Event,
 ) -> Result<Reply, AllocError>
-    ensures ok { IfOk result (λ reply. Makes (IsCall event.now reply) caller.old caller.new) }
-    ensures err { OnErr result (Adds (RanOut event.now) caller.old caller.new) }
+    ensures ok { IfOk result (λ reply. Makes (IsCall event.now reply) caller.old.receipts caller.new.receipts) }
+    ensures err { OnErr result (Adds (RanOut event.now) caller.old.receipts caller.new.receipts) }
 {
     for _ in 0..TRIES {
         match call_once(rt, alloc, caller, event) {
@@ -138,8 +138,8 @@ fn give_up_once<L: Opened, R: Wait>(
     fs: FsId,
 ) -> Result<Reply, AllocError>
     ensures ok { IfOk result
-        (λ reply. Makes (IsCall (AdminCatatonic fs) reply) caller.old caller.new) }
-    ensures err { OnErr result (Adds (RanOut (AdminCatatonic fs)) caller.old caller.new) }
+        (λ reply. Makes (IsCall (AdminCatatonic fs) reply) caller.old.receipts caller.new.receipts) }
+    ensures err { OnErr result (Adds (RanOut (AdminCatatonic fs)) caller.old.receipts caller.new.receipts) }
 {
     if caller.give_up(rt, alloc, fs).is_err() {
         return Err(AllocError);
@@ -162,7 +162,7 @@ fn is_given_up(shared: &Shared, fs: FsId) -> bool
 
 /// Whether others have given it up.
 fn is_given_up_by_others<L: Opened, R: Wait>(rt: &R, caller: &mut Caller<L>, fs: FsId) -> bool
-    ensures { caller.new ≡ caller.old }
+    ensures { caller.new.receipts ≡ caller.old.receipts }
 {
     caller.look(rt, |shared: &Shared| is_given_up(shared, fs))
 }
@@ -170,7 +170,7 @@ fn is_given_up_by_others<L: Opened, R: Wait>(rt: &R, caller: &mut Caller<L>, fs:
 /// Gives up where memory is short: the file system becomes catatonic, so that nobody waits for what isn't done. Where
 /// there is no memory for that either it is tried again and again, until it is done or others have done it.
 pub fn give_up<L: Opened, R: Wait>(rt: &R, alloc: Global, caller: &mut Caller<L>, fs: FsId)
-    ensures { Makes (GivesUp fs) caller.old caller.new }
+    ensures { Makes (GivesUp fs) caller.old.receipts caller.new.receipts }
 {
     for _ in rt.forever() {
         match give_up_once(rt, alloc, caller, fs) {

@@ -40,9 +40,9 @@ impl<L: Planned> Model for Attached<L> {
 
     ghost Value = { ℕ × List Receipt };
 
-    ghost view = { λ a. (a.fs, a.caller) };
+    ghost view = { λ a. (a.fs, a.caller.receipts) };
 
-    ghost invariant = { λ a. IsAttached L.plan a.fs a.caller };
+    ghost invariant = { λ a. IsAttached L.plan a.fs a.caller.receipts };
 }
 
 /// Who asked for expiries. A contract sees the file system and the receipts.
@@ -59,9 +59,9 @@ impl<L: Planned> Model for Expired<L> {
 
     ghost Value = { ℕ × List Receipt };
 
-    ghost view = { λ e. (e.fs, e.caller) };
+    ghost view = { λ e. (e.fs, e.caller.receipts) };
 
-    ghost invariant = { λ e. IsExpirer L.plan e.fs e.caller };
+    ghost invariant = { λ e. IsExpirer L.plan e.fs e.caller.receipts };
 }
 
 /// A walker. A contract sees its number and the receipts.
@@ -78,9 +78,9 @@ impl<L: Planned> Model for Walked<L> {
 
     ghost Value = { ℕ × List Receipt };
 
-    ghost view = { λ w. (w.number, w.caller) };
+    ghost view = { λ w. (w.number, w.caller.receipts) };
 
-    ghost invariant = { λ w. IsWalker L.plan w.number w.caller };
+    ghost invariant = { λ w. IsWalker L.plan w.number w.caller.receipts };
 }
 
 /// Who let the daemon die. A contract sees the file system and the receipts.
@@ -97,9 +97,9 @@ impl<L: Planned> Model for Broke<L> {
 
     ghost Value = { ℕ × List Receipt };
 
-    ghost view = { λ b. (b.fs, b.caller) };
+    ghost view = { λ b. (b.fs, b.caller.receipts) };
 
-    ghost invariant = { λ b. IsBreaker L.plan b.fs b.caller };
+    ghost invariant = { λ b. IsBreaker L.plan b.fs b.caller.receipts };
 }
 
 /// A worker, with its end of the pipe and its backend. A contract sees the end and the receipts.
@@ -118,9 +118,9 @@ impl<L: Planned, B> Model for Served<L, B> {
 
     ghost Value = { Taker × List Receipt };
 
-    ghost view = { λ s. (s.taker, s.caller) };
+    ghost view = { λ s. (s.taker, s.caller.receipts) };
 
-    ghost invariant = { λ s. IsWorker L.pipe s.taker s.caller };
+    ghost invariant = { λ s. IsWorker L.pipe s.taker s.caller.receipts };
 }
 
 impl<L: Planned> Attached<L> {
@@ -134,7 +134,7 @@ impl<L: Planned> Attached<L> {
 impl<L: Planned> Expired<L> {
     /// The caller, and the file system.
     pub fn parts(self) -> (Caller<L>, FsId)
-        ensures { IsExpirer L.plan result.1 result.0 }
+        ensures { IsExpirer L.plan result.1 result.0.receipts }
     {
         let Expired { caller, fs } = self;
         (caller, fs)
@@ -144,7 +144,7 @@ impl<L: Planned> Expired<L> {
 impl<L: Planned> Walked<L> {
     /// The caller, and the walker's number.
     pub fn parts(self) -> (Caller<L>, u32)
-        ensures { IsWalker L.plan result.1 result.0 }
+        ensures { IsWalker L.plan result.1 result.0.receipts }
     {
         let Walked { caller, number } = self;
         (caller, number)
@@ -154,7 +154,7 @@ impl<L: Planned> Walked<L> {
 impl<L: Planned> Broke<L> {
     /// The caller, and the file system.
     pub fn parts(self) -> (Caller<L>, FsId)
-        ensures { IsBreaker L.plan result.1 result.0 }
+        ensures { IsBreaker L.plan result.1 result.0.receipts }
     {
         let Broke { caller, fs } = self;
         (caller, fs)
@@ -164,7 +164,7 @@ impl<L: Planned> Broke<L> {
 impl<L: Planned, B> Served<L, B> {
     /// The caller, the end of the pipe, and the backend.
     pub fn parts(self) -> (Caller<L>, TakeEnd, B)
-        ensures { IsWorker L.pipe result.1 result.0 }
+        ensures { IsWorker L.pipe result.1 result.0.receipts }
     {
         let Served {
             caller,
@@ -194,7 +194,7 @@ pub fn attach<L: Planned, R: Wait>(
     caller: Caller<L>,
     point: &[u8],
 ) -> Result<Attached<L>, AllocError>
-    requires none { caller ≡ [] }
+    requires none { caller.receipts ≡ [] }
     requires point { L.plan.point ≡ point.now }
 {
     let mut caller = caller;
@@ -238,7 +238,7 @@ pub fn walks<L: Planned, G, R: Wait>(
     number: u32,
     common: &Common<'_, '_, G>,
 ) -> Result<Walked<L>, AllocError>
-    requires none { caller ≡ [] }
+    requires none { caller.receipts ≡ [] }
     requires plan { L.plan ≡ plan_of common.now.run }
 {
     let mut caller = caller;
@@ -262,7 +262,7 @@ pub fn breaks<L: Planned, G, R: Wait>(
     caller: Caller<L>,
     common: &Common<'_, '_, G>,
 ) -> Result<Broke<L>, AllocError>
-    requires none { caller ≡ [] }
+    requires none { caller.receipts ≡ [] }
     requires plan { L.plan ≡ plan_of common.now.run }
 {
     let mut caller = caller;
@@ -281,7 +281,7 @@ pub fn serves<L: Planned, G: Gate, B: Backend + Drop, R: Wait>(
     backend: B,
     common: &Common<'_, '_, G>,
 ) -> Result<Served<L, B>, AllocError>
-    requires none { caller ≡ [] }
+    requires none { caller.receipts ≡ [] }
     requires taker { (taker.pipe ≡ L.pipe) × (taker.got ≡ []) }
     requires keep { keeps_events L.keep ≡ true }
 {

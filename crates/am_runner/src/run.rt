@@ -4,7 +4,7 @@ ghost use Rattle.std.specs.Prelude.{◌≡◌, ◌+◌, ◌<◌, ◌^◌, true, 
 ghost use Rattle.std.specs.Fn.{FnOnceReturnsAt};
 ghost use Rattle.am_shared.specs.{keeps_events, opening_of};
 ghost use Rattle.am_shared.specs.Sharing.{Sharing};
-ghost use Rattle.am_runner.specs.Parts.{AreWalkers, AreWorkers, IsBreaker, IsExpirer, TakePart};
+ghost use Rattle.am_runner.specs.Parts.{AreBreakers, AreWalkers, AreWorkers, IsExpirer, TakePart};
 ghost use Rattle.am_runner.specs.Parts.{breakers, keep_of, plan_of};
 ghost use Rattle.am_runner.specs.Runs.{IsRun};
 
@@ -59,9 +59,9 @@ fn together<L: Planned, B: Drop>(
     served: Back<L, B>,
     wanted: Wanted,
 ) -> Result<Back<L, B>, AllocError>
-    requires expires { IsExpirer L.plan asked.fs asked.expirer }
+    requires expires { IsExpirer L.plan asked.fs asked.expirer.receipts }
     requires walks { AreWalkers L.plan 1 asked.walkers.items }
-    requires breaks { All (IsBreaker L.plan asked.fs) asked.breakers.items }
+    requires breaks { AreBreakers L.plan asked.fs asked.breakers.items }
     requires serves { AreWorkers L.pipe served.takers.items served.callers.items }
     requires walkers { wanted.walkers ≡ L.plan.walkers }
     requires breakers { wanted.breakers ≡ breakers L.plan.breaks }
@@ -115,7 +115,7 @@ fn all_back<
     crew: Crew<L, B>,
     common: &'s Common<'s, 's, G>,
 ) -> Result<Back<L, B>, AllocError>
-    requires fresh { All (λ caller. caller ≡ []) crew.others.items }
+    requires fresh { All (λ caller. caller.receipts ≡ []) crew.others.items }
     requires plan { L.plan ≡ plan_of common.now.run }
     requires walkers { crew.wanted.walkers ≡ L.plan.walkers }
     requires breakers { crew.wanted.breakers ≡ breakers L.plan.breaks }
@@ -173,7 +173,7 @@ fn all_in_scope<
     B: Backend + Drop + Send,
     R: Threads + Wait + Sync,
 >(rt: &R, alloc: Global, crew: Crew<L, B>, run: Run<'_>, gate: &G) -> Result<Back<L, B>, AllocError>
-    requires fresh { All (λ caller. caller ≡ []) crew.others.items }
+    requires fresh { All (λ caller. caller.receipts ≡ []) crew.others.items }
     requires plan { L.plan ≡ plan_of run }
     requires walkers { crew.wanted.walkers ≡ L.plan.walkers }
     requires breakers { crew.wanted.breakers ≡ breakers L.plan.breaks }
@@ -193,7 +193,7 @@ fn all_in_scope<
         thread::scope_env(),
         rt,
         |scope| -> Result<Back<L, B>, AllocError>
-            requires fresh { All (λ caller. caller ≡ []) crew.others.items }
+            requires fresh { All (λ caller. caller.receipts ≡ []) crew.others.items }
             requires plan { L.plan ≡ plan_of common.now.run }
             requires walkers { crew.wanted.walkers ≡ L.plan.walkers }
             requires breakers { crew.wanted.breakers ≡ breakers L.plan.breaks }

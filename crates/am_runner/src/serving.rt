@@ -47,13 +47,13 @@ fn start_serving<
     backend: B,
     common: &'s Common<'s, 's, G>,
 ) -> Option<Worker<L, B>>
-    requires { (caller ≡ []) × (taker.pipe ≡ L.pipe) × (taker.got ≡ [])
+    requires { (caller.receipts ≡ []) × (taker.pipe ≡ L.pipe) × (taker.got ≡ [])
         × (keeps_events L.keep ≡ true) }
 {
     scope
         .spawn(
             move || -> Result<Served<L, B>, AllocError>
-                requires { (caller ≡ []) × (taker.pipe ≡ L.pipe) × (taker.got ≡ [])
+                requires { (caller.receipts ≡ []) × (taker.pipe ≡ L.pipe) × (taker.got ≡ [])
                     × (keeps_events L.keep ≡ true) }
             { serves(rt, alloc, caller, taker, backend, common) },
         )
@@ -77,10 +77,10 @@ pub fn start_workers<
     callers: &mut Vec<Caller<L>>,
     common: &'s Common<'s, 's, G>,
 ) -> Result<Vec<Worker<L, B>>, AllocError>
-    requires callers { All (λ caller. caller ≡ []) callers.old.items }
+    requires callers { All (λ caller. caller.receipts ≡ []) callers.old.items }
     requires takers { All (λ taker. (taker.pipe ≡ L.pipe) × (taker.got ≡ [])) service.takers.items }
     requires keep { keeps_events L.keep ≡ true }
-    ensures { All (λ caller. caller ≡ []) callers.new.items }
+    ensures { All (λ caller. caller.receipts ≡ []) callers.new.items }
 {
     let Service {
         takers,

@@ -20,8 +20,8 @@ fn resume<L: Opened, R: Wait>(
     walker: WalkerId,
 ) -> Result<Reply, AllocError>
     ensures ok { IfOk result
-        (λ reply. Makes (IsCall (resume_of walker) reply) caller.old caller.new) }
-    ensures err { OnErr result (Adds (RanOut (resume_of walker)) caller.old caller.new) }
+        (λ reply. Makes (IsCall (resume_of walker) reply) caller.old.receipts caller.new.receipts) }
+    ensures err { OnErr result (Adds (RanOut (resume_of walker)) caller.old.receipts caller.new.receipts) }
 {
     caller.wait_release(rt, walker, |_shared: &Shared| ());
     let resume = Event::Resume {
@@ -49,8 +49,8 @@ fn go_on<L: Opened, R: Wait>(
     caller: &mut Caller<L>,
     walker: WalkerId,
 ) -> Result<Reply, AllocError>
-    ensures ok { IfOk result (λ reply. Makes (GoesOn walker reply) caller.old caller.new) }
-    ensures err { OnErr result (Adds (IsOf (resume_of walker)) caller.old caller.new) }
+    ensures ok { IfOk result (λ reply. Makes (GoesOn walker reply) caller.old.receipts caller.new.receipts) }
+    ensures err { OnErr result (Adds (IsOf (resume_of walker)) caller.old.receipts caller.new.receipts) }
 {
     for _ in rt.forever() {
         let outcome = resume(rt, alloc, caller, walker);
@@ -70,8 +70,8 @@ fn settle<L: Opened, R: Wait>(
     event: &Event,
 ) -> Result<Reply, AllocError>
     ensures ok { IfOk result
-        (λ reply. Makes (Settles event.now walker reply) caller.old caller.new) }
-    ensures err { OnErr result (Adds (IsOfSettling event.now walker) caller.old caller.new) }
+        (λ reply. Makes (Settles event.now walker reply) caller.old.receipts caller.new.receipts) }
+    ensures err { OnErr result (Adds (IsOfSettling event.now walker) caller.old.receipts caller.new.receipts) }
 {
     let outcome = call(rt, alloc, caller, event);
     if has_to_wait(&outcome) {
@@ -88,8 +88,8 @@ fn round<L: Opened, R: Wait>(
     walker: WalkerId,
     walk: &Event,
 ) -> Result<(), AllocError>
-    ensures ok { OnOk result (Makes (IsRound walk.now walker) caller.old caller.new) }
-    ensures err { OnErr result (Adds (IsOfRound walk.now walker) caller.old caller.new) }
+    ensures ok { OnOk result (Makes (IsRound walk.now walker) caller.old.receipts caller.new.receipts) }
+    ensures err { OnErr result (Adds (IsOfRound walk.now walker) caller.old.receipts caller.new.receipts) }
 {
     let reply = settle(rt, alloc, caller, walker, walk)?;
     if reply.is_arrival() {
@@ -122,9 +122,9 @@ pub fn walker<L: Opened, R: Wait>(
     rounds: u32,
 ) -> Result<(), AllocError>
     ensures ok { OnOk result (Makes (AreMany (IsRound (walk_of walker path.now) walker) rounds)
-        caller.old caller.new) }
+        caller.old.receipts caller.new.receipts) }
     ensures err { OnErr result
-        (Adds (IsOfRound (walk_of walker path.now) walker) caller.old caller.new) }
+        (Adds (IsOfRound (walk_of walker path.now) walker) caller.old.receipts caller.new.receipts) }
 {
     let walk = walk(alloc, walker, path)?;
     for _made in 0..rounds {
@@ -143,8 +143,8 @@ pub fn expirer<L: Opened, R: Wait>(
     fs: FsId,
     rounds: u32,
 ) -> Result<(), AllocError>
-    ensures ok { OnOk result (Makes (AreMany (IsExpiry walker fs) rounds) caller.old caller.new) }
-    ensures err { OnErr result (Adds (IsOfExpirer walker fs) caller.old caller.new) }
+    ensures ok { OnOk result (Makes (AreMany (IsExpiry walker fs) rounds) caller.old.receipts caller.new.receipts) }
+    ensures err { OnErr result (Adds (IsOfExpirer walker fs) caller.old.receipts caller.new.receipts) }
 {
     let expire = Event::Expire {
         walker,

@@ -75,8 +75,8 @@ fn next_task<L: Opened, R: Wait>(
     job: JobId,
 ) -> Result<Option<Task>, AllocError>
     requires keep { keeps_events L.keep ≡ true }
-    ensures receipts { caller.new ≡ caller.old }
-    ensures found { IfOk result (IsSeen L.opening caller.old job) }
+    ensures receipts { caller.new.receipts ≡ caller.old.receipts }
+    ensures found { IfOk result (IsSeen L.opening caller.old.receipts job) }
 {
     for _ in 0..TRIES {
         let found = caller.look(
@@ -104,9 +104,9 @@ fn act<L: Opened, B: Backend, R: Wait>(
 ) -> Result<bool, AllocError>
     requires keep { keeps_events L.keep ≡ true }
     ensures ok { IfOk result (λ is_done. MatchBool is_done
-        (Makes (IsAct job Done) caller.old caller.new)
-        (Makes (IsEnd job) caller.old caller.new)) }
-    ensures err { OnErr result (Adds (IsActOf job) caller.old caller.new) }
+        (Makes (IsAct job Done) caller.old.receipts caller.new.receipts)
+        (Makes (IsEnd job) caller.old.receipts caller.new.receipts)) }
+    ensures err { OnErr result (Adds (IsActOf job) caller.old.receipts caller.new.receipts) }
 {
     let Some(task) = next_task(rt, alloc, caller, job)? else {
         return Ok(false);
@@ -125,8 +125,8 @@ fn finish<L: Opened, B: Backend, R: Wait>(
     backend: &mut B,
 ) -> Result<(), AllocError>
     requires keep { keeps_events L.keep ≡ true }
-    ensures ok { OnOk result (Makes (IsWork job) caller.old caller.new) }
-    ensures err { OnErr result (Adds (IsActOf job) caller.old caller.new) }
+    ensures ok { OnOk result (Makes (IsWork job) caller.old.receipts caller.new.receipts) }
+    ensures err { OnErr result (Adds (IsActOf job) caller.old.receipts caller.new.receipts) }
 {
     for _ in rt.forever() {
         if !act(rt, alloc, caller, job, backend)? {
@@ -161,8 +161,8 @@ fn deliver<L: Opened, R: Wait>(
     taken: &(u64, Note),
 ) -> Result<Reply, AllocError>
     ensures ok { IfOk result
-        (λ reply. Makes (IsCall (delivery taken.now) reply) caller.old caller.new) }
-    ensures err { OnErr result (Adds (RanOut (delivery taken.now)) caller.old caller.new) }
+        (λ reply. Makes (IsCall (delivery taken.now) reply) caller.old.receipts caller.new.receipts) }
+    ensures err { OnErr result (Adds (RanOut (delivery taken.now)) caller.old.receipts caller.new.receipts) }
 {
     let event = delivery(alloc, taken)?;
     call(rt, alloc, caller, &event)
@@ -179,8 +179,8 @@ fn serve<L: Opened, G: Gate, B: Backend, R: Wait>(
     backend: &mut B,
 ) -> Result<(), AllocError>
     requires keep { keeps_events L.keep ≡ true }
-    ensures ok { OnOk result (Makes (IsService taken.now) caller.old caller.new) }
-    ensures err { OnErr result (Makes (IsBrokenOff taken.now) caller.old caller.new) }
+    ensures ok { OnOk result (Makes (IsService taken.now) caller.old.receipts caller.new.receipts) }
+    ensures err { OnErr result (Makes (IsBrokenOff taken.now) caller.old.receipts caller.new.receipts) }
 {
     let reply = deliver(rt, alloc, caller, taken)?;
     let Some(job) = reply.job() else {
@@ -201,8 +201,8 @@ fn serve_or_give_up<L: Opened, G: Gate, B: Backend, R: Wait>(
     backend: &mut B,
 ) -> Result<(), AllocError>
     requires keep { keeps_events L.keep ≡ true }
-    ensures ok { OnOk result (Makes (IsService taken.now) caller.old caller.new) }
-    ensures err { OnErr result (Makes (IsGivenUp fs taken.now) caller.old caller.new) }
+    ensures ok { OnOk result (Makes (IsService taken.now) caller.old.receipts caller.new.receipts) }
+    ensures err { OnErr result (Makes (IsGivenUp fs taken.now) caller.old.receipts caller.new.receipts) }
 {
     match serve(rt, alloc, caller, taken, gate, backend) {
         Ok(()) => Ok(()),
@@ -230,9 +230,9 @@ pub fn daemon_worker<L: Opened, G: Gate, B: Backend, R: Wait>(
     ensures pipe { taker.new.pipe ≡ taker.old.pipe }
     ensures over { taker.new.over ≡ true }
     ensures drained { IsDrained taker.new }
-    ensures ok { OnOk result (Serves IsService taker.old.got taker.new.got caller.old caller.new) }
+    ensures ok { OnOk result (Serves IsService taker.old.got taker.new.got caller.old.receipts caller.new.receipts) }
     ensures err { OnErr result
-        (Serves (IsTried fs) taker.old.got taker.new.got caller.old caller.new) }
+        (Serves (IsTried fs) taker.old.got taker.new.got caller.old.receipts caller.new.receipts) }
 {
     let mut outcome = Ok(());
     for _ in rt.forever() {

@@ -10,7 +10,7 @@ use Rattle.am_world.specs.Capacity.{state_of}
 use Rattle.am_world.specs.{WorldTable}
 use Rattle.am_world.proofs.TableLemmas.{state_is}
 use Rattle.am_pipe.specs.{IsFull, Note, Putter}
-use Rattle.am_shared.specs.{all_taken, notes_of, handed_before, keeps_events, keeps_seen, left_of, IsFlushed, IsFlushedSince, IsKept, IsShared, IsSharedFrom, Applies, Keep}
+use Rattle.am_shared.specs.{all_taken, notes_of, handed_before, keeps_events, keeps_seen, IsFlushed, IsFlushedSince, IsKept, IsShared, IsSharedFrom, Applies, Keep}
 use Rattle.am_shared.specs.Sharing.{Sharing}
 use Rattle.am_machine.proofs.Histories.{legal_more}
 use Rattle.am_shared.proofs.NoteLemmas.{notes_append, notes_count}

@@ -5,11 +5,14 @@ use Rattle.std.proofs.lemmas.List.{append-nil}
 use Rattle.std.proofs.lemmas.Bool.Decides.{nat_tests}
 use Rattle.std.specs.Prelude.{if◌then◌else◌, ◌==◌, nat_lt, nat_le, ◌&&◌}
 use Rattle.am_machine.specs.{Answer, Entry, Event, Setup, entry}
-use Rattle.am_shared.specs.{Receipt, AllAgree, AtMostOnce, EachAgree, EachRise, Matches, Rise, Stands, StandsLast, count_in, times, times_in}
+use Rattle.am_shared.specs.{Account, Receipt, newcomer, AllAgree, AtMostOnce, EachAgree, EachRise, Matches, Receives}
+use Rattle.am_shared.specs.{Rise, Sees, StandsLast, count_in, times, times_in}
 use Rattle.am_shared.specs.Calls.{all_calls, call_of, calls_of}
 use Rattle.atomic_table.specs.Seated.{TableId}
 use Rattle.atomic_table.specs.declared.shared.Seat.{Seat}
 use Rattle.am_shared.specs.{Known}
+use mathlib.Core.List.{IsPrefix}
+use Rattle.am_shared.specs.Sharing.{Sharing}
 use Rattle.am_shared.specs.Chronicle.{AreIn, caller, weigh, weigh_to}
 use Rattle.am_shared.specs.Passes.{CallsOn, view_of}
 use Rattle.am_shared.proofs.SumLemmas.{total_append}
@@ -18,10 +21,11 @@ pub calls_snoc : (rs : List Receipt) (r : Receipt) → calls_of (rs ++ r ∷ [])
 calls_snoc [] r = refl
 calls_snoc (x ∷ xs) r = ap (λ l. call_of x ∷ l) (calls_snoc xs r)
 
-pub all_snoc : (xs : List (List Receipt)) (x : List Receipt) → all_calls (xs ++ x ∷ []) ≡ all_calls xs ++ calls_of x
-all_snoc [] x = append-nil (calls_of x)
+pub all_snoc : (xs : List Account) (x : Account) → all_calls (xs ++ x ∷ []) ≡ all_calls xs ++ calls_of x.receipts
+all_snoc [] x = append-nil (calls_of x.receipts)
 all_snoc (y ∷ ys) x =
-    ap (λ l. calls_of y ++ l) (all_snoc ys x) ∙ sym (append_assoc (calls_of y) (all_calls ys) (calls_of x))
+    ap (λ l. calls_of y.receipts ++ l) (all_snoc ys x)
+    ∙ sym (append_assoc (calls_of y.receipts) (all_calls ys) (calls_of x.receipts))
 
 in_front : (h : List Entry) (xs ys : List (ℕ × Entry)) → AreIn h (xs ++ ys) → AreIn h xs
 in_front h [] ys a k d lt = absurd (omega arith)
@@ -38,11 +42,11 @@ calls_agree h [] a = tt
 calls_agree h (r ∷ rs) a =
     (a 0 (call_of r) (omega arith), calls_agree h rs (λ j e l. a (suc j) e (omega arith)))
 
-pub all_calls_agree : (h : List Entry) (callers : List (List Receipt)) → AreIn h (all_calls callers) → EachAgree h callers
+pub all_calls_agree : (h : List Entry) (callers : List Account) → AreIn h (all_calls callers) → EachAgree h callers
 all_calls_agree h [] a = tt
-all_calls_agree h (rs ∷ rest) a = (
-  calls_agree h rs (in_front h (calls_of rs) (all_calls rest) a),
-  all_calls_agree h rest (in_back h (calls_of rs) (all_calls rest) a),
+all_calls_agree h (c ∷ rest) a = (
+  calls_agree h c.receipts (in_front h (calls_of c.receipts) (all_calls rest) a),
+  all_calls_agree h rest (in_back h (calls_of c.receipts) (all_calls rest) a),
 )
 
 -- positions are no higher than the history is long
@@ -66,10 +70,10 @@ rise_snoc low (x ∷ xs) r rise lt above = (
       (λ j e l. above (suc j) e (omega arith)),
 )
 
-pub each_rise_snoc : (callers : List (List Receipt)) (rs : List Receipt) → EachRise callers → Rise 0 rs
-    → EachRise (callers ++ rs ∷ [])
-each_rise_snoc [] rs each rise = (rise, tt)
-each_rise_snoc (x ∷ xs) rs each rise = (each.0, each_rise_snoc xs rs each.1 rise)
+pub each_rise_snoc : (callers : List Account) (last : Account) → EachRise callers → Rise 0 last.receipts
+    → EachRise (callers ++ last ∷ [])
+each_rise_snoc [] last each rise = (rise, tt)
+each_rise_snoc (x ∷ xs) last each rise = (each.0, each_rise_snoc xs last each.1 rise)
 
 -- a caller that has made nothing
 pub fresh_caller : (history : TableId) (pass : Seat Entry Known) (receipts : List Receipt)
@@ -81,45 +85,77 @@ fresh_caller history pass receipts fresh none = (
   subst (λ (l : List Receipt). Rise 0 l) (sym none) tt,
 )
 
+-- its account
+pub fresh_account : (pass : Seat Entry Known) (receipts : List Receipt) → view_of pass ≡ caller [] [] → receipts ≡ []
+    → record { receipts = receipts; seen = (view_of pass).seen } ≡ newcomer
+fresh_account pass receipts fresh none = λ i. record { receipts = none i; seen = (fresh i).seen }
+
 -- the receipt of a call that stands last
-pub stands_from : (o : Setup) (rs : List Receipt) (position : ℕ) (event : Event) (answer : Answer)
-    → StandsLast o (calls_of rs) position (entry event answer)
-    → Stands o (rs ++ record { position = position; event = event; answer = answer } ∷ []) position
-stands_from o rs position event answer h =
-    let r : Receipt = record { position = position; event = event; answer = answer } in record {
-      world = h.world;
-      shared = h.shared;
-      agree = calls_agree h.world.history (rs ++ r ∷ [])
-          (subst (λ (l : List (ℕ × Entry)). AreIn h.world.history l) (sym (calls_snoc rs r)) h.calls);
-      is_last = h.is_last;
+pub receives_from : (o : Setup) (before behind : Known) (old new : Account) (position : ℕ) (event : Event)
+    (answer : Answer) → StandsLast o before behind position (entry event answer)
+    → before.mine ≡ calls_of old.receipts → before.seen ≡ old.seen
+    → new.receipts ≡ old.receipts ++ record { position = position; event = event; answer = answer } ∷ []
+    → behind.seen ≡ new.seen → Receives o old new event position
+receives_from o before behind old new position event answer h mine was receipt is =
+    let r : Receipt = record { position = position; event = event; answer = answer } in
+    let seen : new.seen ≡ h.world.history = sym is ∙ h.seen in
+    record {
+      answer = answer;
+      receipt = receipt;
+      stands = record {
+        world = h.world;
+        shared = h.shared;
+        agree = subst (λ (l : List Receipt). AllAgree h.world.history l) (sym receipt)
+            (calls_agree h.world.history (old.receipts ++ r ∷ [])
+            (subst (λ (l : List (ℕ × Entry)). AreIn h.world.history l) (sym (calls_snoc old.receipts r))
+            (subst (λ (l : List (ℕ × Entry)). AreIn h.world.history (l ++ (position, entry event answer) ∷ [])) mine
+            h.calls)));
+        seen = seen;
+        is_last = h.is_last;
+      };
+      earlier = h.earlier;
+      goes_on = subst (λ (l : List Entry). IsPrefix l h.earlier) was h.goes_on;
+      seen = seen ∙ h.whole;
     }
 
-pub rise_from : (o : Setup) (rs : List Receipt) (position : ℕ) (event : Event) (answer : Answer)
-    → Rise 0 rs → StandsLast o (calls_of rs) position (entry event answer)
+pub rise_from : (o : Setup) (before behind : Known) (rs : List Receipt) (position : ℕ) (event : Event) (answer : Answer)
+    → Rise 0 rs → StandsLast o before behind position (entry event answer) → before.mine ≡ calls_of rs
     → Rise 0 (rs ++ record { position = position; event = event; answer = answer } ∷ [])
-rise_from o rs position event answer rise h =
-    rise_snoc 0 rs (record { position = position; event = event; answer = answer }) rise h.first h.above
+rise_from o before behind rs position event answer rise h mine =
+    rise_snoc 0 rs (record { position = position; event = event; answer = answer }) rise h.first
+    (subst (λ (l : List (ℕ × Entry)). All (λ x. x.0 < position) l) mine h.above)
+
+-- a world whose history has all calls of a caller, and begins with what it saw
+pub sees_from : (s : Sharing) (before behind : Known) (old new : Account) → AreIn s.history before.mine
+    → before.mine ≡ calls_of old.receipts → IsPrefix before.seen s.history → before.seen ≡ old.seen
+    → behind.seen ≡ s.history → behind.seen ≡ new.seen → Sees s old new
+sees_from s before behind old new calls mine goes_on was seen is = record {
+  agree = calls_agree s.history old.receipts
+      (subst (λ (l : List (ℕ × Entry)). AreIn s.history l) mine calls);
+  goes_on = subst (λ (l : List Entry). IsPrefix l s.history) was goes_on;
+  seen = sym is ∙ seen;
+}
 
 times_weighed : (k : ℕ) (rs : List Receipt) → times k rs ≡ weigh (λ p. if p == k then 1 else 0) (calls_of rs)
 times_weighed k [] = refl
 times_weighed k (r ∷ rs) = ap (λ n. (if r.position == k then 1 else 0) + n) (times_weighed k rs)
 
-all_weighed : (k : ℕ) (callers : List (List Receipt))
+all_weighed : (k : ℕ) (callers : List Account)
     → times_in k callers ≡ weigh (λ p. if p == k then 1 else 0) (all_calls callers)
 all_weighed k [] = refl
-all_weighed k (rs ∷ rest) =
-    let t = total_append (λ (x : ℕ × Entry). if x.0 == k then 1 else 0) (calls_of rs) (all_calls rest) in
-    omega (arith, t, times_weighed k rs, all_weighed k rest)
+all_weighed k (c ∷ rest) =
+    let t = total_append (λ (x : ℕ × Entry). if x.0 == k then 1 else 0) (calls_of c.receipts) (all_calls rest) in
+    omega (arith, t, times_weighed k c.receipts, all_weighed k rest)
 
 length_calls : (rs : List Receipt) → weigh (λ _. 1) (calls_of rs) ≡ length rs
 length_calls [] = refl
 length_calls (r ∷ rs) = let t = length_calls rs in omega arith
 
-pub count_calls : (callers : List (List Receipt)) → weigh (λ _. 1) (all_calls callers) ≡ count_in callers
+pub count_calls : (callers : List Account) → weigh (λ _. 1) (all_calls callers) ≡ count_in callers
 count_calls [] = refl
-count_calls (rs ∷ rest) =
-    let t = total_append (λ (x : ℕ × Entry). 1) (calls_of rs) (all_calls rest) in
-    omega (arith, t, length_calls rs, count_calls rest)
+count_calls (c ∷ rest) =
+    let t = total_append (λ (x : ℕ × Entry). 1) (calls_of c.receipts) (all_calls rest) in
+    omega (arith, t, length_calls c.receipts, count_calls rest)
 
 -- each position once, as far as the history is long
 weigh_at : (k n : ℕ) → weigh_to (λ p. if p == k then 1 else 0) n ≡ (if nat_lt 0 k && nat_le k n then 1 else 0)
@@ -127,7 +163,7 @@ weigh_at k zero = grind (arith, nat_tests)
 weigh_at k (suc n) = let r = weigh_at k n in grind (arith, nat_tests)
 
 -- so no position stands in more than one receipt
-pub at_most : (n : ℕ) (callers : List (List Receipt))
+pub at_most : (n : ℕ) (callers : List Account)
     → ((f : ℕ → ℕ) → weigh f (all_calls callers) ≡ weigh_to f n) → AtMostOnce callers
 at_most n callers once position =
     let t = all_weighed position callers in
@@ -143,11 +179,11 @@ pub count_to : (n : ℕ) → weigh_to (λ _. 1) n ≡ n
 count_to zero = refl
 count_to (suc n) = let r = count_to n in omega arith
 
-pub counts : (n : ℕ) (callers : List (List Receipt))
+pub counts : (n : ℕ) (callers : List Account)
     → ((f : ℕ → ℕ) → weigh f (all_calls callers) ≡ weigh_to f n) → n ≡ count_in callers
 counts n callers once = sym (count_to n) ∙ sym (once (λ _. 1)) ∙ count_calls callers
 
-pub all_match : (h : List Entry) (callers : List (List Receipt)) → AreIn h (all_calls callers)
+pub all_match : (h : List Entry) (callers : List Account) → AreIn h (all_calls callers)
     → ((f : ℕ → ℕ) → weigh f (all_calls callers) ≡ weigh_to f (length h)) → EachRise callers
     → Matches h callers
 all_match h callers a once rise = record {

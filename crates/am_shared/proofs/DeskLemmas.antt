@@ -3,7 +3,9 @@ use Rattle.std.proofs.Common.{◌≡◌, ℕ, ◌+◌, ◌-◌, List, [], ◌∷
 use Rattle.std.proofs.Common.{◌∙◌, ◌≤◌, subst, arith, length-append, length-take-le, take, take-append-drop}
 use Rattle.am_machine.specs.{Answer, Entry, Event, Setup, entry, setup_of}
 use Rattle.am_world.specs.Capacity.{state_of}
-use Rattle.am_shared.specs.{AllAgree, Applies, IsShared, IsSharedFrom, IsTaken, Keep, Receipt, StandsLast, all_taken, left_of}
+use mathlib.Core.List.{IsPrefix}
+use Rattle.am_shared.specs.{Account, Applies, IsShared, IsSharedFrom, IsTaken, Keep, Sees, StandsLast, all_taken}
+use Rattle.am_shared.specs.{left_of}
 use Rattle.am_shared.specs.declared.shared.Taken.{Taken}
 use Rattle.am_shared.specs.Sharing.{Sharing}
 use Rattle.am_shared.specs.Chronicle.{AreIn, keeper}
@@ -27,11 +29,13 @@ last_is h later e last is at =
 
 -- the call stands behind those that the caller made before
 pub stands_last : (o : Setup) (old new : Sharing) (event : Event) (position : ℕ) (answer : Answer)
-    (mine : List (ℕ × Entry)) → Applies old new event position answer → IsShared new
-    → setup_of (state_of old.world) ≡ o → AreIn old.history mine
-    → StandsLast o mine position (entry event answer)
-stands_last o old new event position answer mine h shared opening calls =
+    (before behind : Known) → Applies old new event position answer → IsShared new
+    → setup_of (state_of old.world) ≡ o → AreIn old.history before.mine
+    → IsPrefix before.seen old.history → behind.seen ≡ old.history ++ entry event answer ∷ []
+    → StandsLast o before behind position (entry event answer)
+stands_last o old new event position answer before behind h shared opening calls goes_on seen =
     let e = entry event answer in
+    let mine = before.mine in
     let long : length new.history ≡ length old.history + 1 =
     omega (arith, ap length h.history, length-append old.history (e ∷ [])) in
     let there : slice_get (old.history ++ e ∷ []) (position - 1) ≡ Some e =
@@ -45,6 +49,10 @@ stands_last o old new event position answer mine h shared opening calls =
       above = below old.history mine position (omega (arith, h.is_last, long)) calls;
       first = omega (arith, h.is_last, long);
       is_last = h.is_last;
+      earlier = old.history;
+      goes_on = goes_on;
+      whole = h.history;
+      seen = seen ∙ sym h.history;
     }
 
 -- what is kept of a shared world that isn't given away yet
@@ -72,13 +80,13 @@ kept_taken callers o pipe takers room keep keeping old new is kept = subst
     × (s.put.pipe ≡ pipe) × (s.put.takers ≡ takers) × (s.put.room ≡ room) × (s.keep ≡ keep)) (sym is) kept
 
 -- what was left of a history comes behind what was taken before
-pub taken_of : (o : Setup) (receipts : List Receipt) (taken : Taken) (s : Sharing)
-    → IsSharedFrom o s → AllAgree s.history receipts → taken.before ≡ s.taken → taken.entries.items ≡ left_of s
-    → s.taken ≤ length s.history → IsTaken o receipts taken
-taken_of o receipts taken s shared agree before left within = record {
+pub taken_of : (o : Setup) (old new : Account) (taken : Taken) (s : Sharing)
+    → IsSharedFrom o s → Sees s old new → taken.before ≡ s.taken → taken.entries.items ≡ left_of s
+    → s.taken ≤ length s.history → IsTaken o old new taken
+taken_of o old new taken s shared sees before left within = record {
   world = s;
   shared = shared;
-  agree = agree;
+  sees = sees;
   before = before;
   earlier = take s.taken s.history;
   count = before ∙ sym (length-take-le s.taken s.history within);

@@ -6,7 +6,8 @@ use Rattle.std.specs.Prelude.{◌↔◌, IsTrue, Option, if◌then◌else◌, na
 use Rattle.std.specs.List.Sorted.{IsNonDecreasingBy, IsPartitionPoint}
 use Rattle.std.proofs.lemmas.Bool.Decides.{nat_tests}
 use Rattle.am_machine.specs.{Entry}
-use Rattle.am_shared.specs.{Receipt, Agrees, AgreesLeft, AllAgree, AllAgreeLeft, EachAgree, EachAgreeLeft, Rise, EachRise, times, times_in, count_in, AtMostOnce, AllAway, Matches}
+use Rattle.am_shared.specs.{Account, Receipt, Agrees, AgreesLeft, AllAgree, AllAgreeLeft, EachAgree, EachAgreeLeft}
+use Rattle.am_shared.specs.{Rise, EachRise, times, times_in, count_in, AtMostOnce, AllAway, Matches}
 
 not_true : IsTrue false → ⊥
 not_true t = absurd (search rules)
@@ -113,7 +114,7 @@ true_or_false : (b : Bool) → (b ≡ true) ⊎ (b ≡ false)
 true_or_false true = inl refl
 true_or_false false = inr refl
 
-away_at : (k : ℕ) (rs : List Receipt) (rest : List (List Receipt)) → AllAway rs rest
+away_at : (k : ℕ) (rs : List Receipt) (rest : List Account) → AllAway rs rest
     → 0 < times k rs → times_in k rest ≡ 0
 away_at k [] rest h lt = absurd (omega arith)
 away_at k (r ∷ rs) rest h lt = ⊎_elim
@@ -124,12 +125,12 @@ away_at k (r ∷ rs) rest h lt = ⊎_elim
     let more : 0 < times k rs = grind (arith, nat_tests) in away_at k rs rest h.1 more)
     (true_or_false (r.position == k))
 
-all_away_from : (rs all : List Receipt) (rest : List (List Receipt))
-    → ((k : ℕ) → times k rs ≤ times k all) → AtMostOnce (all ∷ rest) → AllAway rs rest
+all_away_from : (rs : List Receipt) (all : Account) (rest : List Account)
+    → ((k : ℕ) → times k rs ≤ times k all.receipts) → AtMostOnce (all ∷ rest) → AllAway rs rest
 all_away_from [] all rest some h = tt
 all_away_from (r ∷ rs) all rest some h =
     let here : 0 < times r.position (r ∷ rs) = grind (arith, nat_tests) in
-    let less : (k : ℕ) → times k rs ≤ times k all =
+    let less : (k : ℕ) → times k rs ≤ times k all.receipts =
     λ k. let one = some k in grind (arith, nat_tests) in
     (omega (arith, here, some r.position, h r.position), all_away_from rs all rest less h)
 
@@ -139,11 +140,12 @@ one_at_most_of_two (suc m) n p q h = let none : n ≡ 0 = h (omega arith) in ome
 
 -- no position stands twice where none of the first caller's stands in the others' receipts, and none
 -- stands twice in these
-pub once_split : (rs : List Receipt) (rest : List (List Receipt)) → Rise 0 rs
-    → AtMostOnce (rs ∷ rest) ↔ AllAway rs rest × AtMostOnce rest
-once_split rs rest rise = (
-  (λ h. (all_away_from rs rs rest (λ k. omega arith) h, λ k. let all = h k in omega arith)),
+pub once_split : (c : Account) (rest : List Account) → Rise 0 c.receipts
+    → AtMostOnce (c ∷ rest) ↔ AllAway c.receipts rest × AtMostOnce rest
+once_split c rest rise = (
+  (λ h. (all_away_from c.receipts c rest (λ k. omega arith) h, λ k. let all = h k in omega arith)),
   (λ h k.
+      let rs = c.receipts in
       let mine : times k rs ≤ 1 = times_once 0 k rs rise in
       let theirs : times_in k rest ≤ 1 = h.1 k in
       one_at_most_of_two (times k rs) (times_in k rest) mine theirs (away_at k rs rest h.0)),
@@ -151,31 +153,20 @@ once_split rs rest rise = (
 
 -- ---- one caller more
 
-pub count_snoc : (xs : List (List Receipt)) (x : List Receipt)
-    → count_in (xs ++ x ∷ []) ≡ length x + count_in xs
-count_snoc [] x = refl
-count_snoc (y ∷ ys) x = let r = count_snoc ys x in omega arith
+-- all, of whom the last is apart
+pub all_but_last : (all front : List Account) (popped : Option Account) (last : Account)
+    → all ≡ front ++ option_to_list popped → popped ≡ Some last → all ≡ front ++ last ∷ []
+all_but_last all front popped last is was = is ∙ ap (λ o. front ++ option_to_list o) was
 
-pub agree_front : (n : ℕ) (h : List Entry) (xs : List (List Receipt)) (x : List Receipt)
+pub agree_front : (n : ℕ) (h : List Entry) (xs : List Account) (x : Account)
     → EachAgreeLeft n h (xs ++ x ∷ []) → EachAgreeLeft n h xs
 agree_front n h [] x e = tt
 agree_front n h (y ∷ ys) x e = (e.0, agree_front n h ys x e.1)
 
-pub agree_last : (n : ℕ) (h : List Entry) (xs : List (List Receipt)) (x : List Receipt)
-    → EachAgreeLeft n h (xs ++ x ∷ []) → AllAgreeLeft n h x
+pub agree_last : (n : ℕ) (h : List Entry) (xs : List Account) (x : Account)
+    → EachAgreeLeft n h (xs ++ x ∷ []) → AllAgreeLeft n h x.receipts
 agree_last n h [] x e = e.0
 agree_last n h (y ∷ ys) x e = agree_last n h ys x e.1
-
-pub agree_snoc : (n : ℕ) (h : List Entry) (xs : List (List Receipt)) (x : List Receipt)
-    → EachAgreeLeft n h xs → AllAgreeLeft n h x → EachAgreeLeft n h (xs ++ x ∷ [])
-agree_snoc n h [] x e m = (m, tt)
-agree_snoc n h (y ∷ ys) x e m = (e.0, agree_snoc n h ys x e.1 m)
-
--- all, of whom the last is apart
-pub all_but_last : (all front : List (List Receipt)) (popped : Option (List Receipt)) (last rs : List Receipt)
-    → all ≡ front ++ option_to_list popped → popped ≡ Some last → rs ≡ last → all ≡ front ++ rs ∷ []
-all_but_last all front popped last rs is was same =
-    is ∙ ap (λ o. front ++ option_to_list o) was ∙ ap (λ (l : List Receipt). front ++ l ∷ []) (sym same)
 
 -- ---- what is left of a history
 
@@ -199,10 +190,10 @@ all_agree_left : (h : List Entry) (taken : ℕ) (rs : List Receipt) → AllAgree
 all_agree_left h taken [] a = tt
 all_agree_left h taken (r ∷ rs) a = (agrees_left h taken r a.0, all_agree_left h taken rs a.1)
 
-pub each_agree_left : (h : List Entry) (taken : ℕ) (callers : List (List Receipt)) → EachAgree h callers
+pub each_agree_left : (h : List Entry) (taken : ℕ) (callers : List Account) → EachAgree h callers
     → EachAgreeLeft taken (drop taken h) callers
 each_agree_left h taken [] a = tt
-each_agree_left h taken (rs ∷ rest) a = (all_agree_left h taken rs a.0, each_agree_left h taken rest a.1)
+each_agree_left h taken (c ∷ rest) a = (all_agree_left h taken c.receipts a.0, each_agree_left h taken rest a.1)
 
 -- a part that fails refuses the whole
 pub refuses : {A B : Type 0} (b : Bool) → (IsTrue b ↔ A) → b ≡ false → (B → A) → IsTrue false ↔ B
@@ -211,7 +202,7 @@ refuses b i e f = ((λ t. absurd (not_true t)), λ m. subst IsTrue e (i.1 (f m))
 -- ---- as many receipts as the history has places, each at one of them, and none twice
 
 -- how often the positions from 1 to n stand, added up
-abbrev times_to : ℕ → List (List Receipt) → ℕ
+abbrev times_to : ℕ → List Account → ℕ
 times_to zero callers = 0
 times_to (suc n) callers = times_to n callers + times_in (suc n) callers
 
@@ -246,27 +237,27 @@ own_all h (r ∷ rs) a =
     let far : r.position ≤ length h = position_within h r a.0 in
     let rest = own_all h rs a.1 in grind (arith, nat_tests)
 
-times_cons : (n : ℕ) (rs : List Receipt) (rest : List (List Receipt))
-    → times_to n (rs ∷ rest) ≡ own_to n rs + times_to n rest
-times_cons zero rs rest = refl
-times_cons (suc n) rs rest = let r = times_cons n rs rest in omega arith
+times_cons : (n : ℕ) (c : Account) (rest : List Account)
+    → times_to n (c ∷ rest) ≡ own_to n c.receipts + times_to n rest
+times_cons zero c rest = refl
+times_cons (suc n) c rest = let r = times_cons n c rest in omega arith
 
 times_none : (n : ℕ) → times_to n [] ≡ 0
 times_none zero = refl
 times_none (suc n) = let r = times_none n in omega arith
 
-times_all : (h : List Entry) (callers : List (List Receipt)) → EachAgree h callers
+times_all : (h : List Entry) (callers : List Account) → EachAgree h callers
     → times_to (length h) callers ≡ count_in callers
 times_all h [] a = times_none (length h)
-times_all h (rs ∷ rest) a =
-    omega (arith, times_cons (length h) rs rest, own_all h rs a.0, times_all h rest a.1)
+times_all h (c ∷ rest) a =
+    omega (arith, times_cons (length h) c rest, own_all h c.receipts a.0, times_all h rest a.1)
 
-times_most : (n : ℕ) (callers : List (List Receipt)) → AtMostOnce callers → times_to n callers ≤ n
+times_most : (n : ℕ) (callers : List Account) → AtMostOnce callers → times_to n callers ≤ n
 times_most zero callers once = omega arith
 times_most (suc n) callers once =
     let r = times_most n callers once in let o = once (suc n) in omega arith
 
-each_once_where_all_stand : (n : ℕ) (callers : List (List Receipt)) → AtMostOnce callers → times_to n callers ≡ n
+each_once_where_all_stand : (n : ℕ) (callers : List Account) → AtMostOnce callers → times_to n callers ≡ n
     → (k : ℕ) → k < n → times_in (k + 1) callers ≡ 1
 each_once_where_all_stand zero callers once all k lt = absurd (omega arith)
 each_once_where_all_stand (suc n) callers once all k lt =
@@ -291,14 +282,14 @@ own_far h k (r ∷ rs) a far =
     ⊎_elim (λ (is : k ≡ 0). grind (arith, nat_tests)) (λ (lt : length h < k). grind (arith, nat_tests))
     far
 
-in_far : (h : List Entry) (k : ℕ) (callers : List (List Receipt)) → EachAgree h callers
+in_far : (h : List Entry) (k : ℕ) (callers : List Account) → EachAgree h callers
     → (k ≡ 0) ⊎ (length h < k) → times_in k callers ≡ 0
 in_far h k [] a far = refl
-in_far h k (rs ∷ rest) a far =
-    omega (arith, own_far h k rs a.0 far, in_far h k rest a.1 far)
+in_far h k (c ∷ rest) a far =
+    omega (arith, own_far h k c.receipts a.0 far, in_far h k rest a.1 far)
 
 -- the test in two parts is the whole test
-pub matches_by : (h : List Entry) (callers : List (List Receipt)) → length h ≡ count_in callers
+pub matches_by : (h : List Entry) (callers : List Account) → length h ≡ count_in callers
     → EachRise callers × AtMostOnce callers → EachAgree h callers → Matches h callers
 matches_by h callers count order agree = record {
   once = each_once_where_all_stand (length h) callers order.1 (times_all h callers agree ∙ sym count);
@@ -306,7 +297,7 @@ matches_by h callers count order agree = record {
   rise = order.0;
 }
 
-pub matches_order : (h : List Entry) (callers : List (List Receipt)) → Matches h callers
+pub matches_order : (h : List Entry) (callers : List Account) → Matches h callers
     → EachRise callers × AtMostOnce callers
 matches_order h callers m = (
   m.rise,
@@ -324,19 +315,20 @@ matches_order h callers m = (
 
 -- ---- the callers one by one
 
-pub apart_from : (all : List (List Receipt)) (rs : List Receipt) (rest : List (List Receipt))
-    → all ≡ rs ∷ rest → EachRise all → AtMostOnce all ↔ AllAway rs rest × AtMostOnce rest
-apart_from all rs rest is rise =
-    let first : Rise 0 rs = (subst EachRise is rise).0 in
-    subst (λ (callers : List (List Receipt)). AtMostOnce callers ↔ AllAway rs rest × AtMostOnce rest)
-    (sym is) (once_split rs rest first)
+pub apart_from : (all : List Account) (c : Account) (rs : List Receipt) (rest : List Account)
+    → all ≡ c ∷ rest → rs ≡ c.receipts → EachRise all → AtMostOnce all ↔ AllAway rs rest × AtMostOnce rest
+apart_from all c rs rest is own rise =
+    let first : Rise 0 c.receipts = (subst EachRise is rise).0 in
+    subst (λ (l : List Receipt). AtMostOnce all ↔ AllAway l rest × AtMostOnce rest) (sym own)
+    (subst (λ (callers : List Account). AtMostOnce callers ↔ AllAway c.receipts rest × AtMostOnce rest)
+    (sym is) (once_split c rest first))
 
-pub apart_rest : (all : List (List Receipt)) (rs : List Receipt) (rest : List (List Receipt))
-    → all ≡ rs ∷ rest → EachRise all → EachRise rest
-apart_rest all rs rest is rise = (subst EachRise is rise).1
+pub apart_rest : (all : List Account) (c : Account) (rest : List Account)
+    → all ≡ c ∷ rest → EachRise all → EachRise rest
+apart_rest all c rest is rise = (subst EachRise is rise).1
 
 -- the test of all receipts is made of that of their order and that of what they tell
-pub order_test_decides : (h : List Entry) (callers : List (List Receipt)) (ordered test : Bool)
+pub order_test_decides : (h : List Entry) (callers : List Account) (ordered test : Bool)
     → length h ≡ count_in callers → IsTrue ordered ↔ EachRise callers × AtMostOnce callers
     → IsTrue test ↔ IsTrue ordered × EachAgree h callers → IsTrue test ↔ Matches h callers
 order_test_decides h callers ordered test count order agree = (

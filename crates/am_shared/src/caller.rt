@@ -4,9 +4,9 @@ ghost use Rattle.std.specs.Prelude.{◌≡◌, ◌<◌, ◌-◌, [], length, vec
 ghost use Rattle.std.specs.Prelude.{IfOk, IfErr, OnOk, false};
 ghost use Rattle.std.specs.Sync.Mutex.{mutex_guard_value};
 ghost use Rattle.std.specs.Fn.{FnOnceReturnsAt};
-ghost use Rattle.am_shared.specs.Calls.{IsTaken, Receives};
+ghost use Rattle.am_shared.specs.Accounts.{newcomer};
+ghost use Rattle.am_shared.specs.Calls.{IsTaken, Receives, Sees};
 ghost use Rattle.am_shared.specs.Chronicle.{caller as caller_with, keeper};
-ghost use Rattle.am_shared.specs.Matching.{AllAgree};
 ghost use Rattle.am_shared.specs.declared.keep.Keep.TheVariants.{Nothing};
 ghost use Rattle.am_shared.specs.Opening.{opening_of};
 ghost use Rattle.am_shared.specs.Passes.{CallsOn, KeepsHistory, view_of};
@@ -44,7 +44,7 @@ pub struct Lock<L: Opened> {
     ghost logbook: { history.shared.table_id ≡ L.logbook },
 }
 
-/// One thread's way to a shared world. A contract sees its receipts.
+/// One thread's way to a shared world. A contract sees its receipts, and what it has seen of the history.
 #[derive(Drop)]
 pub struct Caller<L: Opened> {
     pub(crate) lock: Arc<Lock<L>>,
@@ -53,15 +53,15 @@ pub struct Caller<L: Opened> {
 }
 
 impl<L: Opened> Model for Caller<L> {
-    ghost use Rattle.std.specs.Prelude.{◌≡◌, List};
-    ghost use Rattle.am_shared.specs.declared.caller.Receipt.{Receipt};
+    ghost use Rattle.std.specs.Prelude.{◌≡◌};
+    ghost use Rattle.am_shared.specs.Accounts.{Account};
     ghost use Rattle.am_shared.specs.Calls.{calls_of};
     ghost use Rattle.am_shared.specs.Matching.{Rise};
     ghost use Rattle.am_shared.specs.Passes.{CallsOn, view_of};
 
-    ghost Value = { List Receipt };
+    ghost Value = { Account };
 
-    ghost view = { λ c. c.receipts.items };
+    ghost view = { λ c. record { receipts = c.receipts.items; seen = (view_of c.pass).seen } };
 
     ghost invariant = { λ c. CallsOn L.logbook c.pass
         × ((view_of c.pass).mine ≡ calls_of c.receipts.items) × Rise 0 c.receipts.items };
@@ -105,7 +105,7 @@ pub fn share<L: Opened>(
     requires put { (put.sent ≡ []) × (L.pipe ≡ put.pipe) × (L.takers ≡ put.takers) × (L.room ≡ put.room) }
     requires keep { L.keep ≡ keep }
     ensures len { IfOk result (λ made. vec_len made ≡ callers) }
-    ensures each { IfOk result (λ made. All (λ caller. caller ≡ []) made.items) }
+    ensures each { IfOk result (λ made. All (λ caller. caller ≡ newcomer) made.items) }
 {
     let Logbook {
         history,
@@ -148,14 +148,15 @@ impl<L: Opened> Lock<L> {
 impl<L: Opened> Caller<L> {
     /// The events that this caller made, in order, with their positions and answers.
     pub fn receipts(&self) -> &[Receipt]
-        ensures { result.now ≡ self.now }
+        ensures { result.now ≡ self.now.receipts }
     {
         self.receipts.as_slice()
     }
 
     /// The receipt of the last event that this caller made.
     pub fn receipt(&self) -> Option<&Receipt>
-        ensures { option_copied result ≡ slice_get self.now (length self.now - 1) }
+        ensures { option_copied result
+            ≡ slice_get self.now.receipts (length self.now.receipts - 1) }
     {
         self.receipts().last()
     }
@@ -201,12 +202,12 @@ impl<L: Opened> Caller<L> {
         Ok(position)
     }
 
-    /// Lends what lies under the lock, while the lock is held.
+    /// Lends what lies under the lock, while the lock is held: no older value than this caller has seen.
     pub fn look<T, F: FnOnce(&Shared) -> T, R: Wait>(&mut self, rt: &R, f: F) -> T
         requires { F.IsAlwaysCallable f }
-        ensures receipts { self.new ≡ self.old }
+        ensures receipts { self.new.receipts ≡ self.old.receipts }
         ensures lent { (s : Sharing) × IsSharedFrom L.opening s × (s.keep ≡ L.keep)
-            × AllAgree s.history self.old × FnOnceReturnsAt F.FnOnce f s result }
+            × Sees s self.old self.new × FnOnceReturnsAt F.FnOnce f s result }
     {
         self.lock
             .desk
@@ -218,8 +219,8 @@ impl<L: Opened> Caller<L> {
     /// the world is to keep nothing, and tells how many were taken before. It takes no memory.
     pub fn take_history<R: Wait>(&mut self, rt: &R, alloc: Global) -> Taken
         requires { L.keep ≡ Nothing }
-        ensures receipts { self.new ≡ self.old }
-        ensures taken { IsTaken L.opening self.old result }
+        ensures receipts { self.new.receipts ≡ self.old.receipts }
+        ensures taken { IsTaken L.opening self.old self.new result }
     {
         self.lock
             .desk
@@ -236,9 +237,9 @@ impl<L: Opened> Caller<L> {
         f: F,
     ) -> T
         requires { F.IsAlwaysCallable f }
-        ensures receipts { self.new ≡ self.old }
+        ensures receipts { self.new.receipts ≡ self.old.receipts }
         ensures lent { (s : Sharing) × IsSharedFrom L.opening s × (s.keep ≡ L.keep)
-            × AllAgree s.history self.old × (has_to_wait walker s ≡ false) × FnOnceReturnsAt F.FnOnce f s result }
+            × Sees s self.old self.new × (has_to_wait walker s ≡ false) × FnOnceReturnsAt F.FnOnce f s result }
     {
         let mut desk = self.lock.released(rt, walker);
         desk.lend(&self.lock.history, &mut self.pass, f)

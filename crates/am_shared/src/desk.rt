@@ -2,6 +2,7 @@
 
 ghost use Rattle.std.specs.Prelude.{◌≡◌, ◌<◌, ◌≤◌, ◌+◌, ◌++◌, [], ◌∷◌, Some, IfErr, IfOk, MatchResult, length};
 ghost use Rattle.std.specs.Fn.{FnOnceReturnsAt};
+ghost use mathlib.Core.List.{IsPrefix};
 ghost use Rattle.am_machine.specs.{entry as entry_of, setup_of};
 ghost use Rattle.am_world.specs.Capacity.{state_of};
 ghost use Rattle.am_shared.specs.Calls.{StandsLast};
@@ -99,12 +100,12 @@ impl<L: Opened> Desk<L> {
         requires history { history.now.shared.table_id ≡ L.logbook }
         requires caller { CallsOn L.logbook calling.old }
         ensures caller { CallsOn L.logbook calling.new }
-        ensures ok { IfOk result (λ made. StandsLast L.opening (view_of calling.old).mine
+        ensures ok { IfOk result (λ made. StandsLast L.opening (view_of calling.old) (view_of calling.new)
             made.position (entry_of event made.answer)) }
         ensures mine { MatchResult result
             (λ made. (view_of calling.new).mine ≡ (view_of calling.old).mine
             ++ (made.position, entry_of event made.answer) ∷ [])
-            (λ _. (view_of calling.new).mine ≡ (view_of calling.old).mine) }
+            (λ _. view_of calling.new ≡ view_of calling.old) }
         ensures event { IfErr result (λ back. back.event ≡ event) }
     {
         let Desk {
@@ -129,15 +130,16 @@ impl<L: Opened> Desk<L> {
         })
     }
 
-    /// Takes the events that are left of the history, which has all calls of the caller.
-    pub fn take_history(&mut self, alloc: Global, history: &History, calling: &mut Pass) -> Taken
+    /// Takes the events that are left of the history, which has all calls of the caller, and begins with what it saw.
+    pub fn take_history(&mut self, alloc: Global, history: &History, taking: &mut Pass) -> Taken
         requires keep { L.keep ≡ Nothing }
         requires history { history.now.shared.table_id ≡ L.logbook }
-        requires caller { CallsOn L.logbook calling.old }
-        ensures caller { CallsOn L.logbook calling.new
-            × ((view_of calling.new).mine ≡ (view_of calling.old).mine) }
+        requires caller { CallsOn L.logbook taking.old }
+        ensures caller { CallsOn L.logbook taking.new
+            × ((view_of taking.new).mine ≡ (view_of taking.old).mine) }
         ensures taken { (s : Sharing) × (self.old ≡ Some s) × (self.new ≡ Some (all_taken s))
-            × IsSharedFrom L.opening s × AreIn s.history (view_of calling.old).mine
+            × IsSharedFrom L.opening s × AreIn s.history (view_of taking.old).mine
+            × IsPrefix (view_of taking.old).seen s.history × ((view_of taking.new).seen ≡ s.history)
             × (result.before ≡ s.taken) × (result.entries.items ≡ left_of s)
             × (s.taken ≤ length s.history) }
     {
@@ -147,10 +149,10 @@ impl<L: Opened> Desk<L> {
             ..
         } = self;
         let Some(shared) = shared.as_mut() else {
-            not_all(history, keeping, calling);
+            not_all(history, keeping, taking);
             unreachable!()
         };
-        meet(history, keeping, calling);
+        meet(history, keeping, taking);
         // What a shared world keeps is known where its history is read.
         let _history = shared.history();
         let before = shared.taken();
@@ -158,7 +160,7 @@ impl<L: Opened> Desk<L> {
         Taken { before, entries }
     }
 
-    /// Lends the shared world, whose history has all calls of the caller.
+    /// Lends the shared world, whose history has all calls of the caller, and begins with what it saw.
     pub fn lend<T, F: FnOnce(&Shared) -> T>(
         &mut self,
         history: &History,
@@ -172,7 +174,9 @@ impl<L: Opened> Desk<L> {
         ensures caller { CallsOn L.logbook calling.new
             × ((view_of calling.new).mine ≡ (view_of calling.old).mine) }
         ensures lent { (s : Sharing) × (self.old ≡ Some s) × IsSharedFrom L.opening s
-            × (s.keep ≡ L.keep) × AreIn s.history (view_of calling.old).mine × FnOnceReturnsAt F.FnOnce f s result }
+            × (s.keep ≡ L.keep) × AreIn s.history (view_of calling.old).mine
+            × IsPrefix (view_of calling.old).seen s.history × ((view_of calling.new).seen ≡ s.history)
+            × FnOnceReturnsAt F.FnOnce f s result }
     {
         let Desk {
             shared,

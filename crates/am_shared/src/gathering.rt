@@ -1,9 +1,9 @@
 //! All callers of a shared world in one hand.
 
-ghost use Rattle.std.specs.Prelude.{◌≡◌, ◌↔◌, ◌+◌, ◌<◌, [], ◌∷◌, ◌++◌, ℕ, true, Some, IsTrue, vec_len, length};
+ghost use Rattle.std.specs.Prelude.{◌≡◌, ◌↔◌, ◌+◌, ◌<◌, ◌++◌, ℕ, true, Some, IsTrue, vec_len, length};
 ghost use Rattle.am_shared.specs.Calls.{all_calls};
 ghost use Rattle.am_shared.specs.Chronicle.{AreIn, weigh, weigh_to};
-ghost use Rattle.am_shared.specs.Matching.{count_in, EachAgreeLeft, EachRise, Matches};
+ghost use Rattle.am_shared.specs.Matching.{count_in, AllAgreeLeft, EachAgreeLeft, EachRise, Matches};
 ghost use Rattle.am_shared.specs.Passes.{CallsOn, IsOn, view_of};
 ghost use Rattle.am_shared.specs.Sharing.{Sharing, IsSharedFrom, left_of};
 
@@ -65,8 +65,8 @@ impl<L: Opened> Desk<L> {
         ensures caller { CallsOn L.logbook calling.new
             × ((view_of calling.new).mine ≡ (view_of calling.old).mine) }
         ensures test { (s : Sharing) × (self.old ≡ Some s) × (IsTrue result ↔
-            (IsTrue in_order × EachAgreeLeft s.taken (left_of s)
-            (callers.entry.now ++ last.entry.now ∷ []))) }
+            (IsTrue in_order × EachAgreeLeft s.taken (left_of s) callers.entry.now
+            × AllAgreeLeft s.taken (left_of s) last.entry.now)) }
     {
         let Desk {
             shared,

@@ -1,6 +1,6 @@
 //! The receipts of all callers against the history.
 
-ghost use Rattle.std.specs.Prelude.{◌≡◌, ◌↔◌, ◌<◌, [], ◌∷◌, ◌++◌, IsTrue};
+ghost use Rattle.std.specs.Prelude.{◌≡◌, ◌↔◌, ◌<◌, IsTrue};
 ghost use Rattle.am_machine.specs.History.{entry as entry_of};
 ghost use Rattle.am_shared.specs.Matching.{AgreesLeft, AllAgreeLeft, EachAgreeLeft, Rise, EachRise};
 ghost use Rattle.am_shared.specs.Matching.{times, times_in, AtMostOnce, AllAway};
@@ -70,7 +70,7 @@ pub fn are_matched<L: Opened>(
     last: &[Receipt],
 ) -> bool
     ensures { IsTrue result ↔
-        (IsTrue in_order × EachAgreeLeft taken left.now (callers.now ++ last.now ∷ [])) }
+        (IsTrue in_order × EachAgreeLeft taken left.now callers.now × AllAgreeLeft taken left.now last.now) }
 {
     if !in_order {
         return false;

@@ -1,7 +1,7 @@
 use Rattle.std.proofs.Common.{◌≡◌, List, [], ◌∷◌, rules}
 use Rattle.std.proofs.lemmas.List.Elements.{All-rest}
 use Rattle.std.specs.Vec.Iter.{into_iter_items}
-use Rattle.am_shared.specs.{Receipt}
+use Rattle.am_shared.specs.{Account}
 use Rattle.am_runner.proofs.asking.start_walkers.Goals as goal
 
 pub loop-caller-preserved : goal.loop-caller-preserved
@@ -12,6 +12,6 @@ loop-caller-preserved g c =
       can = search rules;
       finite = search rules;
       room = search rules;
-      fresh = All-rest (λ (caller : List Receipt). caller ≡ []) c.in-Some.caller others
+      fresh = All-rest (λ (caller : Account). caller.receipts ≡ []) c.in-Some.caller others
           (into_iter_items c.loop-caller.caller-iterator) step c.loop-caller.invariant.fresh;
     }

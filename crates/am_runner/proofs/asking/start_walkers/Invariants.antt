@@ -8,5 +8,5 @@ invariant-loop-caller g l = record {
   can : (goal.iterator-loop-caller g).can_next l.caller-iterator;
   finite : (goal.iterator-loop-caller g).is_finite l.caller-iterator;
   room : vec_len l.walking + into_iter_len l.caller-iterator ≤ vec_capacity l.walking;
-  fresh : All (λ caller. caller ≡ []) (into_iter_items l.caller-iterator);
+  fresh : All (λ caller. caller.receipts ≡ []) (into_iter_items l.caller-iterator);
 }

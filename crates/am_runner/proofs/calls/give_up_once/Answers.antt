@@ -7,19 +7,19 @@ use Rattle.am_runner.proofs.calls.give_up_once.Goals as goal
 pub returns-clause-ok : goal.returns-clause-ok
 returns-clause-ok g c =
     let event = AdminCatatonic c.args.fs in
-    let old = c.args.caller.now in
-    let now = c.give_up.new.self in
+    let old = c.args.caller.now.receipts in
+    let now = c.give_up.new.self.receipts in
     subst (λ r. IfOk r (λ reply. Makes (IsCall event reply) old now)) (sym c.ok_or.ensures.value)
     (called_ok record {} g.L.Opened.opening c.give_up.result event event c.reply_to.result
-    c.in-Some.receipt.now old now (sym c.is_err.ensures.value ∙ c.if-is_err.false) c.give_up.ensures.ok
-    refl c.in-Some.ensures c.reply_to.ensures)
+    c.in-Some.receipt.now c.args.caller.now c.give_up.new.self (sym c.is_err.ensures.value ∙ c.if-is_err.false)
+    c.give_up.ensures.ok refl c.in-Some.ensures c.reply_to.ensures)
 
 pub returns-clause-err : goal.returns-clause-err
 returns-clause-err g c =
     let event = AdminCatatonic c.args.fs in
-    let old = c.args.caller.now in
-    let now = c.give_up.new.self in
+    let old = c.args.caller.now.receipts in
+    let now = c.give_up.new.self.receipts in
     subst (λ r. OnErr r (Adds (RanOut event) old now)) (sym c.ok_or.ensures.value)
     (called_err record {} g.L.Opened.opening c.give_up.result event event c.reply_to.result
-    c.in-Some.receipt.now old now (sym c.is_err.ensures.value ∙ c.if-is_err.false) c.give_up.ensures.ok
-    refl c.in-Some.ensures c.reply_to.ensures)
+    c.in-Some.receipt.now c.args.caller.now c.give_up.new.self (sym c.is_err.ensures.value ∙ c.if-is_err.false)
+    c.give_up.ensures.ok refl c.in-Some.ensures c.reply_to.ensures)

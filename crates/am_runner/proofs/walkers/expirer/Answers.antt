@@ -8,25 +8,26 @@ use Rattle.am_runner.proofs.walkers.expirer.Goals as goal
 pub loop-made-init : goal.loop-made-init
 loop-made-init g c = record {
   same = refl;
-  rounds = many_none (IsExpiry c.args.walker c.args.fs) c.args.caller.now;
+  rounds = many_none (IsExpiry c.args.walker c.args.fs) c.args.caller.now.receipts;
 }
 
 pub loop-made-preserved : goal.loop-made-preserved
 loop-made-preserved g c = record {
   same = c.loop-made.invariant.same;
   rounds = expiry_more (expiry c.args.walker c.args.fs) c.args.walker c.loop-made._made
-      c.in_ok-settle.field-0 c.args.caller.now c.loop-made.caller c.settle.new.caller
+      c.in_ok-settle.field-0 c.args.caller.now.receipts c.loop-made.caller.receipts c.settle.new.caller.receipts
       c.loop-made.invariant.rounds
-      (subst (λ (e : Event). Makes (Settles e c.args.walker c.in_ok-settle.field-0) c.loop-made.caller c.settle.new.caller)
+      (subst (λ (e : Event). Makes (Settles e c.args.walker c.in_ok-settle.field-0) c.loop-made.caller.receipts
+      c.settle.new.caller.receipts)
       c.loop-made.invariant.same c.in_ok-settle.ensures.ok);
 }
 
 pub returns-in_err-settle-clause-err : goal.returns-in_err-settle-clause-err
 returns-in_err-settle-clause-err g c =
     on_err c.from_residual.result
-    (Adds (IsOfExpirer c.args.walker c.args.fs) c.args.caller.now c.settle.new.caller)
+    (Adds (IsOfExpirer c.args.walker c.args.fs) c.args.caller.now.receipts c.settle.new.caller.receipts)
     (many_out (IsExpiry c.args.walker c.args.fs) (IsOfExpirer c.args.walker c.args.fs)
     (each_of_expiry c.args.walker (expiry c.args.walker c.args.fs)) c.loop-made._made
-    c.args.caller.now c.loop-made.caller c.settle.new.caller c.loop-made.invariant.rounds
-    (subst (λ (e : Event). Adds (IsOfSettling e c.args.walker) c.loop-made.caller c.settle.new.caller)
+    c.args.caller.now.receipts c.loop-made.caller.receipts c.settle.new.caller.receipts c.loop-made.invariant.rounds
+    (subst (λ (e : Event). Adds (IsOfSettling e c.args.walker) c.loop-made.caller.receipts c.settle.new.caller.receipts)
     c.loop-made.invariant.same c.in_err-settle.ensures.err))

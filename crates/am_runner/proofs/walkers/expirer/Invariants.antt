@@ -5,5 +5,5 @@ use Rattle.am_runner.proofs.walkers.expirer.Given as goal
 abbrev pub invariant-loop-made : goal.invariant-loop-made
 invariant-loop-made g l = record {
   same : l.expire ≡ expiry l.walker l.fn.fs;
-  rounds : Makes (AreMany (IsExpiry l.walker l.fn.fs) l._made) l.initial.caller l.caller;
+  rounds : Makes (AreMany (IsExpiry l.walker l.fn.fs) l._made) l.initial.caller.receipts l.caller.receipts;
 }

@@ -7,5 +7,5 @@ abbrev pub invariant-loop : goal.invariant-loop
 invariant-loop g l = record {
   can : (goal.iterator-loop g).can_next l.iterator';
   finite : (goal.iterator-loop g).is_finite l.iterator';
-  waits : (n : ℕ) × Makes (AreMany (IsCall (resume l.fn.walker) Wait) n) l.fn.caller l.caller;
+  waits : (n : ℕ) × Makes (AreMany (IsCall (resume l.fn.walker) Wait) n) l.fn.caller.receipts l.caller.receipts;
 }

@@ -5,5 +5,6 @@ use Rattle.am_runner.proofs.walkers.walker.Given as goal
 abbrev pub invariant-loop-made : goal.invariant-loop-made
 invariant-loop-made g l = record {
   same : l.walk ≡ walk l.walker l.path;
-  rounds : Makes (AreMany (IsRound (walk l.walker l.path) l.walker) l._made) l.initial.caller l.caller;
+  rounds : Makes (AreMany (IsRound (walk l.walker l.path) l.walker) l._made) l.initial.caller.receipts
+      l.caller.receipts;
 }

@@ -8,10 +8,10 @@ pub loop-preserved-in-Ok : goal.loop-preserved-in-Ok
 loop-preserved-in-Ok g c =
     let fs = c.args.fs in
     let got = c.args.taker.now.got in
-    let old = c.args.caller.now in
+    let old = c.args.caller.now.receipts in
     let x = c.in-Some-wait.taken in
-    let b = c.loop.caller in
-    let now = c.serve_or_give_up.new.caller in record {
+    let b = c.loop.caller.receipts in
+    let now = c.serve_or_give_up.new.caller.receipts in record {
       can = tt;
       finite = tt;
       pipe = search rules;
@@ -28,13 +28,13 @@ pub loop-preserved : goal.loop-preserved
 loop-preserved g c =
     let fs = c.args.fs in
     let x = c.in-Some-wait.taken in
-    let b = c.loop.caller in
-    let now = c.serve_or_give_up.new.caller in record {
+    let b = c.loop.caller.receipts in
+    let now = c.serve_or_give_up.new.caller.receipts in record {
       can = tt;
       finite = tt;
       pipe = search rules;
       tried = serves_more (IsTried fs) c.args.taker.now.got c.loop.taker.got c.wait.new.self.got x
-          c.args.caller.now b now c.loop.invariant.tried c.in-Some-wait.ensures.got
+          c.args.caller.now.receipts b now c.loop.invariant.tried c.in-Some-wait.ensures.got
           (tried_given_up fs x b now c.in-Err.ensures.err);
       served = tt;
     }

@@ -8,6 +8,6 @@ invariant-loop g l = record {
   can : (goal.iterator-loop g).can_next l.iterator';
   finite : (goal.iterator-loop g).is_finite l.iterator';
   pipe : l.taker.pipe ≡ l.fn.taker.pipe;
-  tried : Serves (IsTried l.fn.fs) l.fn.taker.got l.taker.got l.fn.caller l.caller;
-  served : OnOk l.outcome (Serves IsService l.fn.taker.got l.taker.got l.fn.caller l.caller);
+  tried : Serves (IsTried l.fn.fs) l.fn.taker.got l.taker.got l.fn.caller.receipts l.caller.receipts;
+  served : OnOk l.outcome (Serves IsService l.fn.taker.got l.taker.got l.fn.caller.receipts l.caller.receipts);
 }

@@ -1,6 +1,7 @@
 use Rattle.std.proofs.Common.{◌≡◌, ◌+◌, ◌≤◌, [], vec_len, All}
 use Rattle.std.specs.Prelude.{vec_capacity}
 use Rattle.std.specs.Vec.Iter.{into_iter_items, into_iter_len}
+use Rattle.am_shared.specs.Accounts.{newcomer}
 use Rattle.am_shared.specs.Chronicle.{caller}
 use Rattle.am_shared.specs.Passes.{CallsOn, view_of}
 use Rattle.am_shared.proofs.caller.share.Given as goal
@@ -13,5 +14,5 @@ invariant-loop-pass g l = record {
   room : l.callers ≤ vec_capacity l.made;
   passes : All (λ pass. CallsOn g.L.Opened.logbook pass × (view_of pass ≡ caller [] []))
       (into_iter_items l.pass-iterator);
-  each : All (λ made. made ≡ []) l.made.items;
+  each : All (λ made. made ≡ newcomer) l.made.items;
 }

@@ -1,4 +1,4 @@
-use Rattle.std.proofs.Common.{length, length-append, arith}
+use Rattle.std.proofs.Common.{length-append, arith}
 use Rattle.am_shared.proofs.parts.count.Goals as goal
 
 pub returns-clause-all : goal.returns-clause-all

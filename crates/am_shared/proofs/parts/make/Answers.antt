@@ -2,7 +2,7 @@ use Rattle.std.proofs.Common.{◌≡◌, [], ◌∷◌, ◌++◌, length, drop, 
 use Rattle.am_machine.specs.{Answer, entry}
 use Rattle.am_shared.specs.{Applies, notes_of, sharing_of}
 use Rattle.am_shared.specs.Sharing.{Sharing}
-use Rattle.am_shared.proofs.ApplyLemmas.{Stepped, kept_after, lends_no_less, left_behind, none_handed, one_behind, one_longer, one_note_at_most, seen_behind, stepped_from}
+use Rattle.am_shared.proofs.ApplyLemmas.{kept_after, lends_no_less, left_behind, none_handed, one_behind, one_longer, one_note_at_most, seen_behind, stepped_from}
 use Rattle.am_shared.proofs.parts.make.Goals as goal
 
 pub collect-requires-clause-from : goal.collect-requires-clause-from

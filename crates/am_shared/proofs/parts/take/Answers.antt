@@ -1,4 +1,4 @@
-use Rattle.std.proofs.Common.{◌≡◌, ◌∙◌, [], ◌++◌, List, Vec, Global, arith, length, length-append, append-nil, ap, sym}
+use Rattle.std.proofs.Common.{◌≡◌, ◌∙◌, [], ◌++◌, Vec, Global, arith, length, length-append, append-nil, ap, sym}
 use Rattle.std.proofs.Math.Seq.{drop-append_seam}
 use Rattle.am_machine.specs.{Entry}
 use Rattle.am_shared.specs.{sharing_of}

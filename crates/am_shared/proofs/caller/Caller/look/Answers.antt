@@ -1,14 +1,14 @@
-use Rattle.std.proofs.Common.{ℕ, List, ap, ◌∙◌, subst}
-use Rattle.am_machine.specs.{Entry}
-use Rattle.am_shared.specs.Calls.{calls_of}
-use Rattle.am_shared.specs.Chronicle.{AreIn}
-use Rattle.am_shared.proofs.CallLemmas.{calls_agree}
+use Rattle.std.proofs.Common.{rules, ap, ◌∙◌}
+use Rattle.am_shared.specs.{Account, calls_of}
+use Rattle.am_shared.specs.Passes.{view_of}
+use Rattle.am_shared.proofs.CallLemmas.{sees_from}
 use Rattle.am_shared.proofs.caller.Caller.look.Goals as goal
 
 pub returns-clause-lent : goal.returns-clause-lent
 returns-clause-lent g c =
     let lent = c.lend.ensures.lent in
-    let calls = c.self.invariant.1 ∙ ap calls_of c.self.view_is in
-    let agree = calls_agree lent.0.history c.args.self.now
-    (subst (λ (l : List (ℕ × Entry)). AreIn lent.0.history l) calls lent.4) in
-    (lent.0, lent.2, lent.3, agree, lent.5)
+    let before = view_of c.self.inside.pass in
+    let behind = view_of c.lend.new.calling in
+    let mine = c.self.invariant.1 ∙ ap (λ (a : Account). calls_of a.receipts) c.self.view_is in
+    let was = ap (λ (a : Account). a.seen) c.self.view_is in
+    (lent.0, lent.2, lent.3, sees_from lent.0 before behind _ _ lent.4 mine lent.5 was lent.6 (search rules), lent.7)

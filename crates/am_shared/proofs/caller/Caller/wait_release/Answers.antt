@@ -1,19 +1,24 @@
-use Rattle.std.proofs.Common.{◌≡◌, ℕ, List, Some, false, rules, sym, ap, ◌∙◌, subst}
+use Rattle.std.proofs.Common.{◌≡◌, Some, false, rules, sym, ap, ◌∙◌}
 use Rattle.std.specs.Sync.Mutex.{mutex_guard_value}
-use Rattle.am_machine.specs.{Entry}
-use Rattle.am_shared.specs.{has_to_wait, is_held_up}
-use Rattle.am_shared.specs.Calls.{calls_of}
-use Rattle.am_shared.specs.Chronicle.{AreIn}
-use Rattle.am_shared.proofs.CallLemmas.{calls_agree}
+use Rattle.am_shared.specs.{Account, calls_of, has_to_wait, is_held_up}
+use Rattle.am_shared.specs.Passes.{view_of}
+use Rattle.am_shared.proofs.CallLemmas.{sees_from}
 use Rattle.am_shared.proofs.caller.Caller.wait_release.Goals as goal
 
 pub returns-clause-lent : goal.returns-clause-lent
 returns-clause-lent g c =
     let lent = c.lend.ensures.lent in
-    let calls = c.self.invariant.1 ∙ ap calls_of c.self.view_is in
-    let agree = calls_agree lent.0.history c.args.self.now
-    (subst (λ (l : List (ℕ × Entry)). AreIn lent.0.history l) calls lent.4) in
+    let before = view_of c.self.inside.pass in
+    let behind = view_of c.lend.new.calling in
+    let mine = c.self.invariant.1 ∙ ap (λ (a : Account). calls_of a.receipts) c.self.view_is in
+    let was = ap (λ (a : Account). a.seen) c.self.view_is in
     let there : mutex_guard_value c.released-desk.result ≡ Some lent.0 = search rules in
     let free : has_to_wait c.args.walker lent.0 ≡ false =
-    ap (is_held_up c.args.walker) (sym there) ∙ c.released-desk.ensures in
-    (lent.0, lent.2, lent.3, agree, free, lent.5)
+    ap (is_held_up c.args.walker) (sym there) ∙ c.released-desk.ensures in (
+      lent.0,
+      lent.2,
+      lent.3,
+      sees_from lent.0 before behind _ _ lent.4 mine lent.5 was lent.6 (search rules),
+      free,
+      lent.7,
+    )

@@ -1,4 +1,5 @@
 use Rattle.std.proofs.Common.{◌≡◌, ◌-◌, List, [], ◌∷◌, ◌++◌, Some, slice_get, length, rules, sym, ap, ◌∙◌, subst}
+use mathlib.Core.List.{IsPrefix}
 use Rattle.am_machine.specs.{Entry, entry}
 use Rattle.am_shared.specs.{Known, left_of}
 use Rattle.am_shared.specs.Chronicle.{AreIn, keeper}
@@ -43,7 +44,17 @@ returns-clause-ok g c =
     let old = c.in-Some.shared.now in
     let there : c.self.inside.shared ≡ Some old = search rules in
     let kept = kept_of _ _ _ _ _ _ _ _ old there c.self.invariant.3 in
-    let mine = (view_of c.args.calling.now).mine in
+    let before = view_of c.args.calling.now in
+    let behind = view_of c.record.new.calling in
+    let all : (view_of c.self.inside.keeping).all ≡ old.history = ap (λ (v : Known). v.all) kept.0 in
+    let applied = c.in_ok-made.ensures.one in
+    let last = c.in-Some-last.last.now in
+    let at : slice_get c.history.result.now (length c.history.result.now - 1) ≡ Some last = search rules in
+    let is : last ≡ entry c.args.event c.in_ok-made.made.answer =
+    last_is (left_of old) c.history.result.now (entry c.args.event c.in_ok-made.made.answer) last
+    (c.history.ensures.left ∙ applied.left) at in
     stands_last g.L.Opened.opening old c.apply_with.new.self c.args.event c.in_ok-made.made.position
-    c.in_ok-made.made.answer mine c.in_ok-made.ensures.one c.history.ensures.shared kept.1
-    (subst (λ (l : List Entry). AreIn l mine) (ap (λ (v : Known). v.all) kept.0) c.record.ensures.calls)
+    c.in_ok-made.made.answer before behind applied c.history.ensures.shared kept.1
+    (subst (λ (l : List Entry). AreIn l before.mine) all c.record.ensures.calls)
+    (subst (λ (l : List Entry). IsPrefix before.seen l) all c.record.ensures.seen)
+    (ap (λ (v : Known). v.seen) c.record.ensures.caller.1 ∙ (λ i. all i ++ is i ∷ []))

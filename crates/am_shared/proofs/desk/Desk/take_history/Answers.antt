@@ -1,6 +1,7 @@
-use Rattle.std.proofs.Common.{◌≡◌, ℕ, List, ◌++◌, Some, rules, sym, ap, ◌∙◌, subst}
+use Rattle.std.proofs.Common.{◌≡◌, List, Some, rules, sym, ap, ◌∙◌, subst}
+use mathlib.Core.List.{IsPrefix}
 use Rattle.am_machine.specs.{Entry}
-use Rattle.am_shared.specs.{Known, all_taken, keeps_events}
+use Rattle.am_shared.specs.{Known, keeps_events}
 use Rattle.am_shared.specs.Sharing.{Sharing}
 use Rattle.am_shared.specs.Chronicle.{AreIn, keeper}
 use Rattle.am_shared.specs.Passes.{view_of}
@@ -37,12 +38,15 @@ returns-clause-taken g c =
     let old = c.in-Some.shared.now in
     let there : c.self.inside.shared ≡ Some old = search rules in
     let kept = kept_of _ _ _ _ _ _ _ _ old there c.self.invariant.3 in
-    let mine = (view_of c.args.calling.now).mine in (
+    let before = view_of c.args.taking.now in
+    let all : (view_of c.self.inside.keeping).all ≡ old.history = ap (λ (v : Known). v.all) kept.0 in (
       old,
       search rules,
       ap Some c.take_history-entries.ensures.taken,
       shared_from g.L.Opened.opening old c.history-history.ensures.shared kept.1,
-      subst (λ (l : List Entry). AreIn l mine) (ap (λ (v : Known). v.all) kept.0) c.meet.ensures.calls,
+      subst (λ (l : List Entry). AreIn l before.mine) all c.meet.ensures.calls,
+      subst (λ (l : List Entry). IsPrefix before.seen l) all c.meet.ensures.seen,
+      ap (λ (v : Known). v.seen) c.meet.ensures.caller.1 ∙ all,
       c.taken-before.ensures.count,
       c.take_history-entries.ensures.entries,
       c.taken-before.ensures.within,

@@ -1,5 +1,4 @@
-use Rattle.std.proofs.Common.{◌≡◌, [], ◌++◌, List, length, arith, sym, ap}
-use Rattle.am_machine.specs.{Entry}
+use Rattle.std.proofs.Common.{◌++◌, length, arith, sym, ap}
 use Rattle.am_shared.specs.{opening_of}
 use Rattle.am_shared.proofs.ApplyLemmas.{new_kept}
 use Rattle.am_shared.proofs.shared.Shared.new.Goals as goal
