@@ -13,8 +13,8 @@ CLAUSE = re.compile(r"\bensures\*? (\w+) \{")
 BODY = re.compile(r"^ *\{$", re.M)
 # A definition as pages name it, by its module; what stands for any such name, or for a file's, is none.
 DEFINITION = re.compile(r"(?!NAME\.|Module\.name$|.*\.(?:antt|md)$)(?:[A-Z]\w*\.)+\w+")
-# Words before a colon that stand for calls without naming one.
-OTHERS = ("the same", "each change", "the other calls")
+# The parts whose tables tell calls by their crates.
+OF_CALLS = ("Threads", "Laws of the two halves", "Texts and scripts", "Sessions, C and the program")
 
 
 def text_of(path):
@@ -70,14 +70,13 @@ def faults_of_group(crate, calls, named):
 
 
 def faults_of_calls(crate, cell):
-    """A cell names calls, and after a colon their clauses; a semicolon parts such groups."""
+    """A cell names calls, and after a colon their clauses, or clauses of any; a semicolon parts such groups."""
     for group in cell.split(";"):
         # A colon that stands in no code.
         colon = re.search(r":(?=(?:[^`]*`[^`]*`)*[^`]*$)", group)
         words, rest = (group[:colon.start()], group[colon.end():]) if colon else (group, "")
         calls = [it for it in SPAN.findall(words) if re.fullmatch(r"[\w:]+", it)]
-        starts_so = any(words.strip().startswith(it) for it in OTHERS)
-        yield from faults_of_group(crate, [] if starts_so else calls, SPAN.findall(rest))
+        yield from faults_of_group(crate, calls, SPAN.findall(rest))
 
 
 @functools.cache
@@ -118,16 +117,14 @@ def has(crate, name):
 
 def faults():
     """What the page names, and the sources don't have."""
-    crate = ""
-    for row in rows_below("## Clause by clause", "| Crate |"):
-        crate = (SPAN.findall(row[0]) or [crate])[0]
-        for fault in faults_of_calls(crate, row[1]):
-            yield f"{PAGE}: Clause by clause: {fault}"
-    for row in rows_below("## The other crates", "| Crate |"):
-        crate = (SPAN.findall(row[0]) or [crate])[0]
-        for name in SPAN.findall(row[1]):
-            if re.fullmatch(r"\w+", name) and not re.search(rf"\b{name}\b", sources(crate, "specs")):
-                yield f"{PAGE}: The other crates: {crate} has no definition {name}"
+    for part in OF_CALLS:
+        crate = ""
+        for row in rows_below(f"## {part}", "| Crate |"):
+            crate = (SPAN.findall(row[0]) or [crate])[0]
+            for fault in faults_of_calls(crate, row[1]):
+                yield f"{PAGE}: {part}: {fault}"
+        if not crate:
+            yield f"{PAGE}: there is no table of calls in {part}"
     for row in rows_below("## The public calls", "| Call |"):
         found = re.search(r"\(`(\w+)`\)", row[0])
         calls = [it for it in SPAN.findall(row[0]) if not it.startswith("am_")]
