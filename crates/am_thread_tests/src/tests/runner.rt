@@ -115,7 +115,8 @@ fn end_of(shared: &Shared) -> End {
 }
 
 /// Two walkers walk to a key each, and each of two workers serves one of them. So each worker comes
-/// to its gate and to its mount while the other one is there.
+/// to its gate and to its mount while the other one is there. A key is mounted once more where it expires
+/// before its walker, who was released, is inside.
 fn two_at_once<R: Threads + Wait + Abort + Sync>(
     rt: &R,
     alloc: Global,
@@ -152,7 +153,10 @@ fn two_at_once<R: Threads + Wait + Abort + Sync>(
     )?;
     assert_eq!(rt; meeting.missed.load(Ordering::SeqCst), 0);
     assert_eq!(rt; meeting.gates.load(Ordering::SeqCst), 2);
-    assert_eq!(rt; meeting.mounts.load(Ordering::SeqCst), 2);
+    assert!(rt;
+        meeting.mounts.load(Ordering::SeqCst) >= 2,
+        "each key is mounted"
+    );
     assert_eq!(rt; ran.backends.len(), 2);
     assert!(rt; ran.left.is_empty(), "each note was taken");
     assert!(rt; ran.found.are_released, "no walker resumes too early");
