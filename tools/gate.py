@@ -5,8 +5,8 @@ usage: tools/gate.py [--all]
 
 First every planted fault is read: where one doesn't apply, or the front end refuses it, the gate ends there.
 Then every crate and its tests are proved from nothing and run (`rt ci`), and beside that planted faults are
-tried, in rounds (tools/faults): those of the crates that the last commit changed, and those of a quarter of
-the others, another quarter at each commit; with --all those of all crates. After 110 minutes no more of them are begun;
+tried, in rounds (tools/faults): those of the crates that the last commit changed, and those of an eighth of
+the others, another eighth at each commit; with --all those of all crates. After 110 minutes no more of them are begun;
 what is left is told by name. When all is proved, the refused allocations, the program's commands, the examples, the program
 over two pipes, the library for C, and the pages are run, beside the faults that are left.
 
@@ -28,7 +28,7 @@ TICKS = os.sysconf("SC_CLK_TCK")
 PAGE = os.sysconf("SC_PAGE_SIZE")
 KINDS = ("proof", "tests", "faults")
 # How many parts the faults of the crates are tried in.
-PARTS = 4
+PARTS = 8
 # Which share of the work the proofs are; the planted faults are the rest.
 PROOFS = 0.75
 # Behind so many minutes no more planted faults are begun: a gate ends on a slow machine too, and says what it left out.
