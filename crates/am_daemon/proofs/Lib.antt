@@ -6,3 +6,4 @@ pub mod OnceLemmas
 pub mod ByFsLemmas
 pub mod CopyLemmas
 pub mod KnownLemmas
+pub mod SameLemmas

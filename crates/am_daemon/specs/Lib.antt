@@ -1,4 +1,5 @@
 pub mod State
+pub mod Same
 pub mod Points
 pub mod Lent
 pub mod Attachments

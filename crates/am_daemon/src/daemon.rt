@@ -1,7 +1,8 @@
 //! The daemon as a value.
 
-ghost use Rattle.std.specs.Prelude.{◌≡◌, IfOk};
+ghost use Rattle.std.specs.Prelude.{◌≡◌, ◌↔◌, IsTrue, IfOk};
 ghost use Rattle.am_job.specs.{record_of};
+ghost use Rattle.am_daemon.specs.Same.{HaveSameMaps, HaveSameNotes};
 ghost use Rattle.am_daemon.specs.State.{IsCopy, initial, rows_of};
 
 use crate::copies::{Mapped, Noted, copy_mapped, copy_noted};
@@ -59,6 +60,17 @@ impl Model for Daemon {
     ghost view = { table_of };
 }
 
+/// Whether these are the same maps in the same order.
+fn are_same_maps(maps: &[Map], others: &[Map]) -> bool
+    ensures { IsTrue result ↔ (maps.now ≡ others.now) }
+{
+    maps.len() == others.len()
+        && maps
+            .iter()
+            .zip(others)
+            .all(|(map, other)| map.is_same(other))
+}
+
 impl Daemon {
     /// A daemon of a master map and the maps of its lines, in their order. Nothing is attached.
     pub fn new(alloc: Global, master: Master, maps: Vec<Map>) -> Daemon
@@ -90,6 +102,32 @@ impl Daemon {
             book,
             jobs,
         })
+    }
+
+    /// Whether the paths, attachments and records are the same.
+    fn is_same_noted(&self, other: &Daemon) -> bool
+        ensures { IsTrue result ↔ HaveSameNotes self.now other.now }
+    {
+        self.known.is_same(&other.known)
+            && self.held.is_same(&other.held)
+            && self.book.is_same(&other.book)
+    }
+
+    /// Whether the maps and the jobs are the same.
+    fn is_same_mapped(&self, other: &Daemon) -> bool
+        ensures { IsTrue result ↔ HaveSameMaps self.now other.now }
+    {
+        self.jobs.is_same(&other.jobs)
+            && self.master.is_same(&other.master)
+            && are_same_maps(self.maps.as_slice(), other.maps.as_slice())
+    }
+
+    /// Whether both are the same daemon, but for their room.
+    #[tactic(auto, using(crate::proofs::SameLemmas::same_daemons, crate::proofs::SameLemmas::same_notes, crate::proofs::SameLemmas::same_maps))]
+    pub fn is_same(&self, other: &Daemon) -> bool
+        ensures { IsTrue result ↔ (rows_of self.now ≡ rows_of other.now) }
+    {
+        self.is_same_noted(other) && self.is_same_mapped(other)
     }
 
     /// What is mounted on each trigger, in order of making.

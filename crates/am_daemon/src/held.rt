@@ -1,6 +1,6 @@
 //! The attachments that the daemon holds, found by their file systems.
 
-ghost use Rattle.std.specs.Prelude.{◌≡◌, ◌≤◌, ◌+◌, ◌==◌, ◌&&◌, [], map, find, length, slice_get, IfOk, OnOk};
+ghost use Rattle.std.specs.Prelude.{◌≡◌, ◌≤◌, ◌+◌, ◌==◌, ◌&&◌, ◌↔◌, [], map, find, length, slice_get, IsTrue, IfOk, OnOk};
 ghost use Rattle.std.specs.List.{list_any};
 ghost use Rattle.std.specs.Option.{option_map};
 ghost use Rattle.am_daemon.specs.Attachments.{AreOnce, held_as};
@@ -50,6 +50,13 @@ impl HeldTable {
         Ok(HeldTable {
             attachments: self.attachments.copy(alloc)?,
         })
+    }
+
+    /// Whether both have the same attachments in the same order.
+    pub(crate) fn is_same(&self, other: &HeldTable) -> bool
+        ensures { IsTrue result ↔ (self.now.rows ≡ other.now.rows) }
+    {
+        self.attachments.is_same(&other.attachments)
     }
 
     /// The attachment to the file system. There is one at most.

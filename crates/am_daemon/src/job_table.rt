@@ -1,6 +1,6 @@
 //! The daemon's jobs, as a table.
 
-ghost use Rattle.std.specs.Prelude.{◌≡◌, ◌≤◌, ◌<◌, ◌+◌, ◌-◌, ◌==◌, ◌∷◌, ◌++◌, [], ℕ, true, false, None, Some, cond, map, set, get_or, drop, remove, find, position, is_some, IfOk, OnOk, vec_len, vec_capacity, length};
+ghost use Rattle.std.specs.Prelude.{◌≡◌, ◌≤◌, ◌<◌, ◌+◌, ◌-◌, ◌==◌, ◌∷◌, ◌++◌, ◌↔◌, [], ℕ, true, false, None, Some, IsTrue, cond, map, set, get_or, drop, remove, find, position, is_some, IfOk, OnOk, vec_len, vec_capacity, length};
 ghost use Rattle.std.specs.Option.{option_copied};
 ghost use Rattle.indexmap.specs.IndexMap.{spare};
 ghost use Rattle.am_daemon.specs.State.{JobPlan, job_plan};
@@ -199,6 +199,17 @@ fn copies_of(alloc: Global, rows: &[Job], room: usize) -> Result<Vec<Job>, Alloc
     Ok(copies)
 }
 
+/// Whether these are the same jobs in the same order.
+fn are_same(rows: &[Job], others: &[Job]) -> bool
+    ensures { IsTrue result ↔ (rows.now ≡ others.now) }
+{
+    rows.len() == others.len()
+        && rows
+            .iter()
+            .zip(others)
+            .all(|(row, other)| row.is_same(other))
+}
+
 impl JobTable {
     /// No job.
     pub fn new(alloc: Global) -> JobTable
@@ -227,6 +238,13 @@ impl JobTable {
             turns,
             next: self.next,
         })
+    }
+
+    /// Whether both have the same jobs.
+    pub fn is_same(&self, other: &JobTable) -> bool
+        ensures { IsTrue result ↔ (self.now.rows ≡ other.now.rows) }
+    {
+        are_same(self.as_slice(), other.as_slice())
     }
 
     /// The jobs, in order of delivery.

@@ -1,6 +1,6 @@
 //! The paths at which file systems were attached, found by their file systems.
 
-ghost use Rattle.std.specs.Prelude.{◌≡◌, ◌<◌, ◌≤◌, ◌+◌, ◌^◌, ◌==◌, [], length, map, take, nat_eq, slice_get, None, IfOk, IfSome, OnOk};
+ghost use Rattle.std.specs.Prelude.{◌≡◌, ◌<◌, ◌≤◌, ◌+◌, ◌^◌, ◌==◌, ◌↔◌, [], length, map, take, nat_eq, slice_get, None, IsTrue, IfOk, IfSome, OnOk};
 ghost use Rattle.std.specs.List.{list_any, IsDistinct};
 ghost use Rattle.std.specs.Map.{keys_of, lookup};
 ghost use Rattle.std.specs.Option.{option_copied, option_map};
@@ -181,6 +181,40 @@ fn copies_of(
     Ok(copies)
 }
 
+/// Whether both have the same path of the same file system at this index, or both none.
+fn is_same_at(
+    places: &OrderedMap<u32, Place>,
+    others: &OrderedMap<u32, Place>,
+    index: usize,
+) -> bool
+    ensures { IsTrue result
+        ↔ (slice_get places.now.entries index ≡ slice_get others.now.entries index) }
+{
+    match (places.get_index(index), others.get_index(index)) {
+        (Some((fs, place)), Some((other_fs, other_place))) => {
+            *fs == *other_fs && place.is_same(other_place)
+        }
+        (None, None) => true,
+        (None, Some(_)) | (Some(_), None) => false,
+    }
+}
+
+/// Whether these are the same paths of the same file systems, in the same order.
+#[tactic(auto, using(am_names::proofs::Basics::one_more_alike))]
+fn are_same(places: &OrderedMap<u32, Place>, others: &OrderedMap<u32, Place>) -> bool
+    ensures { IsTrue result ↔ (places.now.entries ≡ others.now.entries) }
+{
+    if places.len() != others.len() {
+        return false;
+    }
+    for index in 0..places.len() {
+        if !is_same_at(places, others, index) {
+            return false;
+        }
+    }
+    true
+}
+
 /// A file system that the daemon was ever attached to, and the path of that.
 #[derive(Clone, Copy)]
 pub struct Known<'a> {
@@ -212,6 +246,13 @@ impl KnownTable {
             places: copies_of(alloc, &self.places, room)?,
             buckets,
         })
+    }
+
+    /// Whether both have the same paths in the same order.
+    pub(crate) fn is_same(&self, other: &KnownTable) -> bool
+        ensures { IsTrue result ↔ (self.now.rows ≡ other.now.rows) }
+    {
+        are_same(&self.places, &other.places)
     }
 
     /// How many there are.

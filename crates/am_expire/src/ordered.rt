@@ -1,6 +1,6 @@
 //! The triggers, and the order in which they come to expire.
 
-ghost use Rattle.std.specs.Prelude.{◌≡◌, ◌≤◌, ◌+◌, length, filter, None, IfOk, OnOk, OnErr};
+ghost use Rattle.std.specs.Prelude.{◌≡◌, ◌≤◌, ◌+◌, ◌↔◌, length, filter, None, IsTrue, IfOk, OnOk, OnErr};
 ghost use Rattle.am_names.specs.{RefusedAs, RefusedOnlyAs};
 ghost use Rattle.am_trigger.specs.{no_triggers, add_refusal, with_autofs, catatonic_refusal, with_catatonic, mkdir_refusal, with_directory, rmdir_refusal, without_directory, used, all_used, KeepsRoom};
 ghost use Rattle.am_expire.specs.Order.{is_of, IsOrder};
@@ -52,6 +52,13 @@ impl OrderedTriggers {
             triggers: self.triggers.copy(alloc)?,
             order: self.order.copy()?,
         })
+    }
+
+    /// Whether both have the same triggers, and so in the same order.
+    pub fn is_same(&self, other: &OrderedTriggers) -> bool
+        ensures { IsTrue result ↔ (self.now.rows ≡ other.now.rows) }
+    {
+        self.triggers.is_same(&other.triggers)
     }
 
     /// The triggers, to look at.

@@ -1,6 +1,6 @@
 //! Which walkers are inside which mounts.
 
-ghost use Rattle.std.specs.Prelude.{◌≡◌, ◌<◌, ◌^◌, length, slice_get, Some, IfOk, OnOk, OnErr};
+ghost use Rattle.std.specs.Prelude.{◌≡◌, ◌<◌, ◌^◌, ◌↔◌, length, slice_get, Some, IsTrue, IfOk, OnOk, OnErr};
 ghost use Rattle.am_names.specs.{RefusedAs, RefusedOnlyAs};
 ghost use Rattle.am_expire.specs.Uses.{no_uses, mount_of_walker, use_count, is_used, enter_refusal, entered, IsInToo, HasOneMore, leave_refusal, left, IsInNoMore};
 ghost use Rattle.am_expire.specs.Counts.{counted, CountsOneMore};
@@ -91,6 +91,13 @@ impl Uses {
             mounts: self.mounts.copy(alloc)?,
             counts: self.counts.clone()?,
         })
+    }
+
+    /// Whether the same walkers are inside the same mounts, and entered in the same order.
+    pub fn is_same(&self, other: &Uses) -> bool
+        ensures { IsTrue result ↔ (self.now ≡ other.now) }
+    {
+        self.mounts.is_same(&other.mounts)
     }
 
     /// The mount that the walker is inside of.

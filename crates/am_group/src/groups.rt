@@ -1,6 +1,6 @@
 //! The peer groups of all mounts.
 
-ghost use Rattle.std.specs.Prelude.{◌≡◌, ◌+◌, ◌^◌, ◌<◌, ◌≤◌, ◌∷◌, [], length, IfOk, IfSome, OnOk, OnErr};
+ghost use Rattle.std.specs.Prelude.{◌≡◌, ◌+◌, ◌^◌, ◌<◌, ◌≤◌, ◌↔◌, ◌∷◌, [], length, IsTrue, IfOk, IfSome, OnOk, OnErr};
 ghost use Rattle.am_names.specs.{RefusedAs, row_with};
 ghost use Rattle.am_group.specs.Propagation.{member_row, group_of, master_of_group};
 ghost use Rattle.am_group.specs.Changes.{with_group};
@@ -11,7 +11,7 @@ ghost use Rattle.am_group.specs.Members.{no_mounts, below, with_member, is_exhau
 
 use crate::indexes::Indexes;
 use crate::mount_state::MountState;
-use crate::tables::{group_row, member_row};
+use crate::tables::{are_same_groups, are_same_members, group_row, member_row};
 use am_names::{Errno, GroupId, GroupRow, MemberRow, Membership, MountId};
 use am_ordered::Rows;
 use std::alloc::{AllocError, Global};
@@ -81,6 +81,15 @@ impl Groups {
             last_group: self.last_group,
             indexes: self.indexes.copy(alloc)?,
         })
+    }
+
+    /// Whether both have the same mounts and peer groups.
+    pub fn is_same(&self, other: &Groups) -> bool
+        ensures { IsTrue result ↔ (self.now ≡ other.now) }
+    {
+        self.last_group == other.last_group
+            && are_same_members(self.members(), other.members())
+            && are_same_groups(self.groups(), other.groups())
     }
 
     /// The mounts, in rising order of number.

@@ -2,7 +2,7 @@
 
 ghost use Rattle.std.specs.List.Sorted.{IsNonDecreasing};
 ghost use Rattle.std.specs.Bool.{OnTrue};
-ghost use Rattle.std.specs.Prelude.{◌≡◌, Some, false, IfSome};
+ghost use Rattle.std.specs.Prelude.{◌≡◌, ◌↔◌, Some, false, IsTrue, IfSome};
 ghost use Rattle.am_group.specs.Propagation.{member_row, group_row};
 ghost use Rattle.am_names.specs.{is_among};
 ghost use Rattle.am_group.specs.Invariant.{RiseFrom, GroupsRise};
@@ -103,4 +103,43 @@ pub fn group_row(groups: &[GroupRow], group: GroupId) -> Option<GroupRow>
         Ok(at) => Some(groups[at]),
         Err(_) => None,
     }
+}
+
+/// Whether both are the same mount with the same propagation.
+fn is_same_member(row: &MemberRow, other: &MemberRow) -> bool
+    ensures { IsTrue result ↔ (row.now ≡ other.now) }
+{
+    row.mount == other.mount
+        && row.group() == other.group()
+        && row.master() == other.master()
+        && row.is_unbindable() == other.is_unbindable()
+}
+
+/// Whether these are the same mounts in the same order.
+pub fn are_same_members(members: &[MemberRow], others: &[MemberRow]) -> bool
+    ensures { IsTrue result ↔ (members.now ≡ others.now) }
+{
+    members.len() == others.len()
+        && members
+            .iter()
+            .zip(others)
+            .all(|(row, other)| is_same_member(row, other))
+}
+
+/// Whether both are the same peer group with the same master.
+fn is_same_group(row: &GroupRow, other: &GroupRow) -> bool
+    ensures { IsTrue result ↔ (row.now ≡ other.now) }
+{
+    row.group == other.group && row.master == other.master
+}
+
+/// Whether these are the same peer groups in the same order.
+pub fn are_same_groups(groups: &[GroupRow], others: &[GroupRow]) -> bool
+    ensures { IsTrue result ↔ (groups.now ≡ others.now) }
+{
+    groups.len() == others.len()
+        && groups
+            .iter()
+            .zip(others)
+            .all(|(row, other)| is_same_group(row, other))
 }

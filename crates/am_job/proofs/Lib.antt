@@ -1,2 +1,3 @@
 pub mod PlanLemmas
 pub mod BookLemmas
+pub mod SameLemmas

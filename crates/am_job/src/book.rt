@@ -1,6 +1,6 @@
 //! The daemon's book: what is mounted on each trigger.
 
-ghost use Rattle.std.specs.Prelude.{◌≡◌, ◌≤◌, ◌+◌, ◌==◌, not, length, filter, remove, slice_get, if◌then◌else◌, [], Some, None, IfOk, IfSome, OnOk, OnErr};
+ghost use Rattle.std.specs.Prelude.{◌≡◌, ◌≤◌, ◌+◌, ◌==◌, ◌↔◌, not, length, filter, remove, slice_get, if◌then◌else◌, [], Some, None, IsTrue, IfOk, IfSome, OnOk, OnErr};
 ghost use Rattle.am_names.specs.{RefusedAs};
 ghost use Rattle.am_job.specs.Book.{record_of, with_record, without_record, without_fs, IsRecorded, IsForgotten};
 
@@ -70,6 +70,14 @@ impl Book {
         Ok(Book {
             records: self.records.copy(alloc)?,
         })
+    }
+
+    /// Whether both have the same records in the same order.
+    #[tactic(auto, using(am_names::proofs::SameTriggers::key_decides, crate::proofs::SameLemmas::record_decides))]
+    pub fn is_same(&self, other: &Book) -> bool
+        ensures { IsTrue result ↔ (self.now.rows ≡ other.now.rows) }
+    {
+        self.records.is_same(&other.records)
     }
 
     /// How many records there are.

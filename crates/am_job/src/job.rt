@@ -1,6 +1,6 @@
 //! A job: what the daemon does for one packet.
 
-ghost use Rattle.std.specs.Prelude.{◌≡◌, ◌⊎◌, IsTrue, IfOk, IfSome, option_copied};
+ghost use Rattle.std.specs.Prelude.{◌≡◌, ◌⊎◌, ◌↔◌, IsTrue, IfOk, IfSome, option_copied};
 ghost use Rattle.am_job.specs.Job.{plan_of};
 ghost use Rattle.am_job.specs.Laws.{AcknowledgesLast, RecordsFirst, IsLawful, ClaimsFollow, claimed_first};
 ghost use Rattle.am_job.specs.Plans.{plan_for, next_of, rest_of, is_reply, claims};
@@ -73,6 +73,17 @@ impl Job {
             trigger: self.trigger,
             left: self.left.copy(alloc)?,
         })
+    }
+
+    /// Whether both are the same job, with the same acts left.
+    #[tactic(auto, using(am_names::proofs::SameTriggers::equal_by_same_trigger, am_names::proofs::SameTriggers::same_trigger_itself))]
+    pub fn is_same(&self, other: &Job) -> bool
+        ensures { IsTrue result ↔ (self.now ≡ other.now) }
+    {
+        other.job == self.job
+            && self.attach == other.attach
+            && self.trigger.is_same(&other.trigger)
+            && self.left.is_same(&other.left)
     }
 
     /// The number of the packet's token.

@@ -1,6 +1,6 @@
 //! The acts that a job has left.
 
-ghost use Rattle.std.specs.Prelude.{◌≡◌, Some, None, IfOk};
+ghost use Rattle.std.specs.Prelude.{◌≡◌, ◌↔◌, Some, None, IsTrue, IfOk};
 ghost use Rattle.am_names.specs.declared.trigger.Trigger.{Trigger as TriggerRow};
 ghost use Rattle.am_job.specs.declared.act.Act.TheVariants as acts;
 ghost use Rattle.am_job.specs.declared.left.Later.TheVariants as later;
@@ -53,6 +53,74 @@ impl Later {
             Later::AfterUmount { mount } => Later::AfterUmount { mount: *mount },
         };
         Ok(copy)
+    }
+
+    /// Whether both are the same.
+    fn is_same(&self, other: &Later) -> bool
+        ensures { IsTrue result ↔ (self.now ≡ other.now) }
+    {
+        match self {
+            Later::Nothing => is_nothing(other),
+            Later::Reply { status } => is_reply(*status, other),
+            Later::RecordNone { status } => is_record_none(*status, other),
+            Later::Mount { entry } => is_mount(entry, other),
+            Later::AfterMount => is_after_mount(other),
+            Later::AfterUmount { mount } => is_after_umount(*mount, other),
+        }
+    }
+}
+
+fn is_nothing(other: &Later) -> bool
+    ensures { IsTrue result ↔ (later.Nothing ≡ other.now) }
+{
+    match other {
+        Later::Nothing => true,
+        _ => false,
+    }
+}
+
+fn is_reply(status: Status, other: &Later) -> bool
+    ensures { IsTrue result ↔ (later.Reply status ≡ other.now) }
+{
+    match other {
+        Later::Reply { status: same } => status == *same,
+        _ => false,
+    }
+}
+
+fn is_record_none(status: Status, other: &Later) -> bool
+    ensures { IsTrue result ↔ (later.RecordNone status ≡ other.now) }
+{
+    match other {
+        Later::RecordNone { status: same } => status == *same,
+        _ => false,
+    }
+}
+
+fn is_mount(entry: &Entry, other: &Later) -> bool
+    ensures { IsTrue result ↔ (later.Mount entry.now ≡ other.now) }
+{
+    match other {
+        Later::Mount { entry: same } => entry.is_same(same),
+        _ => false,
+    }
+}
+
+fn is_after_mount(other: &Later) -> bool
+    ensures { IsTrue result ↔ (later.AfterMount ≡ other.now) }
+{
+    match other {
+        Later::AfterMount => true,
+        _ => false,
+    }
+}
+
+fn is_after_umount(mount: MountId, other: &Later) -> bool
+    ensures { IsTrue result ↔ (later.AfterUmount mount ≡ other.now) }
+{
+    match other {
+        Later::AfterUmount { mount: same } => mount == *same,
+        _ => false,
     }
 }
 
@@ -189,6 +257,23 @@ impl Left {
                 act: act.copy(alloc)?,
                 later: later.copy(alloc)?,
             }),
+        }
+    }
+
+    /// Whether both are the same acts.
+    pub fn is_same(&self, other: &Left) -> bool
+        ensures { IsTrue result ↔ (self.now ≡ other.now) }
+    {
+        match (self, other) {
+            (Left::Ended, Left::Ended) => true,
+            (
+                Left::Next { act, later },
+                Left::Next {
+                    act: other_act,
+                    later: other_later,
+                },
+            ) => act.is_same(other_act) && later.is_same(other_later),
+            (Left::Ended, Left::Next { .. }) | (Left::Next { .. }, Left::Ended) => false,
         }
     }
 

@@ -11,3 +11,4 @@ pub mod NotifyLemmas
 pub mod WaitingLemmas
 pub mod WalkLemmas
 mod TokenLemmas
+mod SameLemmas

@@ -1,4 +1,5 @@
 pub mod State
+pub mod Same
 pub mod Lookups
 pub mod CallOutcome
 pub mod Observations

@@ -1,6 +1,6 @@
 //! The attachments of all autofs file systems, as a table.
 
-ghost use Rattle.std.specs.Prelude.{◌≡◌, ◌<◌, ◌≤◌, ◌==◌, ◌++◌, ◌∷◌, [], map, find, Some, IfOk, OnOk};
+ghost use Rattle.std.specs.Prelude.{◌≡◌, ◌<◌, ◌≤◌, ◌==◌, ◌++◌, ◌↔◌, ◌∷◌, [], map, find, Some, IsTrue, IfOk, OnOk};
 ghost use Rattle.std.specs.List.{All};
 ghost use Rattle.std.specs.Option.{option_map};
 ghost use Rattle.am_kernel.specs.Rising.{RiseByFs};
@@ -70,6 +70,24 @@ fn set_attach(rows: &mut Vec<Attached>, fs: FsId, attach: Attach)
     }
 }
 
+/// Whether both are the same attachment with the same timeout.
+fn is_same_row(row: &Attached, other: &Attached) -> bool
+    ensures { IsTrue result ↔ (row.now ≡ other.now) }
+{
+    row.fs == other.fs && row.attach == other.attach && row.timeout == other.timeout
+}
+
+/// Whether these are the same attachments in the same order.
+fn are_same(rows: &[Attached], others: &[Attached]) -> bool
+    ensures { IsTrue result ↔ (rows.now ≡ others.now) }
+{
+    rows.len() == others.len()
+        && rows
+            .iter()
+            .zip(others)
+            .all(|(row, other)| is_same_row(row, other))
+}
+
 impl AttachmentTable {
     /// No autofs.
     pub fn new(alloc: Global) -> AttachmentTable
@@ -91,6 +109,13 @@ impl AttachmentTable {
         let mut holders = self.holders.clone()?;
         holders.reserve(self.holders.capacity() - self.holders.len())?;
         Ok(AttachmentTable { rows, holders })
+    }
+
+    /// Whether both have the same attachments.
+    pub fn is_same(&self, other: &AttachmentTable) -> bool
+        ensures { IsTrue result ↔ (self.now.rows ≡ other.now.rows) }
+    {
+        are_same(self.as_slice(), other.as_slice())
     }
 
     /// The rows, in order of attaching.

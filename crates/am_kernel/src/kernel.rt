@@ -1,8 +1,9 @@
 //! The kernel's half of an automounter.
 
-ghost use Rattle.std.specs.Prelude.{◌≡◌, max, None, IfOk};
+ghost use Rattle.std.specs.Prelude.{◌≡◌, ◌↔◌, max, None, IsTrue, IfOk};
 ghost use Rattle.am_names.specs.{RefusedAs};
 ghost use Rattle.am_kernel.specs.State.{initial};
+ghost use Rattle.am_kernel.specs.Same.{HaveSameTriggers, HaveSameWalks};
 ghost use Rattle.am_kernel.specs.CallOutcome.{moment_of};
 
 use crate::attachment_table::AttachmentTable;
@@ -116,6 +117,39 @@ impl Kernel {
             latest: self.latest,
             negative: self.negative,
         })
+    }
+
+    /// Whether the mounts and the triggers are the same, and who waits there.
+    fn is_same_triggered(&self, other: &Kernel) -> bool
+        ensures { IsTrue result ↔ HaveSameTriggers self.now other.now }
+    {
+        self.waits.is_same(&other.waits)
+            && self.failures.is_same(&other.failures)
+            && self.triggers.is_same(&other.triggers)
+            && self.subtree.is_same(&other.subtree)
+    }
+
+    /// Whether the walkers, attachments and packets are the same.
+    fn is_same_walked(&self, other: &Kernel) -> bool
+        ensures { IsTrue result ↔ HaveSameWalks self.now other.now }
+    {
+        self.uses.is_same(&other.uses)
+            && self.attached.is_same(&other.attached)
+            && self.walks.is_same(&other.walks)
+            && self.queue.is_same(&other.queue)
+    }
+
+    /// Whether both are the same kernel.
+    #[tactic(auto, using(crate::proofs::SameLemmas::same_kernels, crate::proofs::SameLemmas::same_triggers, crate::proofs::SameLemmas::same_walks))]
+    pub fn is_same(&self, other: &Kernel) -> bool
+        ensures { IsTrue result ↔ (self.now ≡ other.now) }
+    {
+        self.last_fs == other.last_fs
+            && self.last_attach == other.last_attach
+            && self.latest == other.latest
+            && self.negative == other.negative
+            && self.is_same_walked(other)
+            && self.is_same_triggered(other)
     }
 
     /// The mounts of all namespaces.

@@ -1,6 +1,6 @@
 //! The packets in the pipes, as a queue.
 
-ghost use Rattle.std.specs.Prelude.{◌≡◌, ◌<◌, ◌≤◌, ◌==◌, ◌++◌, ◌∷◌, [], not, filter, IfOk, OnOk};
+ghost use Rattle.std.specs.Prelude.{◌≡◌, ◌<◌, ◌≤◌, ◌==◌, ◌++◌, ◌↔◌, ◌∷◌, [], not, filter, IsTrue, IfOk, OnOk};
 ghost use Rattle.std.specs.List.{All};
 ghost use Rattle.am_kernel.specs.Rising.{RiseByToken};
 ghost use Rattle.am_kernel.specs.Requests.{queued_of};
@@ -9,6 +9,7 @@ ghost use Rattle.am_kernel.specs.Catatonic.{is_packet_of};
 use am_names::{FsId, Token};
 use am_ordered::Rows;
 use am_state::QueuedRow;
+use am_wire::Packet;
 use std::alloc::{AllocError, Global};
 use std::marker::Model;
 
@@ -58,6 +59,41 @@ fn take_row(rows: &mut Rows<QueuedRow>, token: Token)
     }
 }
 
+/// Whether both are the same packet.
+fn is_same_packet(packet: &Packet, other: &Packet) -> bool
+    ensures { IsTrue result ↔ (packet.now ≡ other.now) }
+{
+    packet.kind == other.kind
+        && packet.token == other.token
+        && packet.dev == other.dev
+        && packet.ino == other.ino
+        && packet.uid == other.uid
+        && packet.gid == other.gid
+        && packet.pid == other.pid
+        && packet.tgid == other.tgid
+        && packet.name.as_bytes() == other.name.as_bytes()
+}
+
+/// Whether both are the same packet in the same pipe.
+fn is_same_row(row: &QueuedRow, other: &QueuedRow) -> bool
+    ensures { IsTrue result ↔ (row.now ≡ other.now) }
+{
+    row.token == other.token
+        && row.attach == other.attach
+        && is_same_packet(&row.packet, &other.packet)
+}
+
+/// Whether these are the same packets in the same order.
+fn are_same(rows: &[QueuedRow], others: &[QueuedRow]) -> bool
+    ensures { IsTrue result ↔ (rows.now ≡ others.now) }
+{
+    rows.len() == others.len()
+        && rows
+            .iter()
+            .zip(others)
+            .all(|(row, other)| is_same_row(row, other))
+}
+
 impl PacketQueue {
     /// No packet.
     pub fn new(alloc: Global) -> PacketQueue
@@ -76,6 +112,13 @@ impl PacketQueue {
         Ok(PacketQueue {
             rows: self.rows.copy(alloc)?,
         })
+    }
+
+    /// Whether both have the same packets in the same order.
+    pub fn is_same(&self, other: &PacketQueue) -> bool
+        ensures { IsTrue result ↔ (self.now.rows ≡ other.now.rows) }
+    {
+        are_same(self.as_slice(), other.as_slice())
     }
 
     /// The packets, in order.

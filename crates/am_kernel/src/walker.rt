@@ -1,6 +1,6 @@
 //! Walkers that walk, and that are taken up again.
 
-ghost use Rattle.std.specs.Prelude.{◌≡◌, ◌+◌, ◌<◌, [], IfOk, Some};
+ghost use Rattle.std.specs.Prelude.{◌≡◌, ◌+◌, ◌<◌, ◌↔◌, [], IsTrue, IfOk, Some};
 ghost use Rattle.std.specs.Option.{option_copied};
 ghost use Rattle.am_kernel.specs.CallOutcome.{Yields, Proceeds};
 ghost use Rattle.am_kernel.specs.Walks.{first_attempt, walk_at, walk_outcome};
@@ -30,6 +30,16 @@ impl WalkRow {
             path: self.path.copy(alloc)?,
             attempts: self.attempts,
         })
+    }
+
+    /// Whether both are the same walk of the same walker.
+    pub(crate) fn is_same(&self, other: &WalkRow) -> bool
+        ensures { IsTrue result ↔ (self.now ≡ other.now) }
+    {
+        self.walker == other.walker
+            && self.ns == other.ns
+            && self.attempts == other.attempts
+            && self.path.is_same(&other.path)
     }
 
     /// The walk begins once more.

@@ -1,6 +1,6 @@
 //! The walks of those who wait.
 
-ghost use Rattle.std.specs.Prelude.{◌≡◌, ◌≤◌, ◌<◌, ◌+◌, ◌-◌, ◌==◌, ◌∷◌, ◌++◌, [], ℕ, true, false, Some, cond, drop, length, position, is_some, IfOk, OnOk, vec_len, vec_capacity};
+ghost use Rattle.std.specs.Prelude.{◌≡◌, ◌≤◌, ◌<◌, ◌+◌, ◌-◌, ◌==◌, ◌∷◌, ◌++◌, ◌↔◌, [], ℕ, true, false, Some, cond, drop, length, position, is_some, IsTrue, IfOk, OnOk, vec_len, vec_capacity};
 ghost use Rattle.std.specs.Option.{option_copied};
 ghost use Rattle.indexmap.specs.IndexMap.{spare};
 ghost use Rattle.am_kernel.specs.Walks.{without_walk};
@@ -217,6 +217,17 @@ fn copies_of(alloc: Global, rows: &[WalkRow], room: usize) -> Result<Vec<WalkRow
     Ok(copies)
 }
 
+/// Whether these are the same walks in the same order.
+fn are_same(rows: &[WalkRow], others: &[WalkRow]) -> bool
+    ensures { IsTrue result ↔ (rows.now ≡ others.now) }
+{
+    rows.len() == others.len()
+        && rows
+            .iter()
+            .zip(others)
+            .all(|(row, other)| row.is_same(other))
+}
+
 impl Walks {
     /// Nobody waits.
     pub fn new(alloc: Global) -> Walks
@@ -246,6 +257,13 @@ impl Walks {
             turns,
             next: self.next,
         })
+    }
+
+    /// Whether both have the same walks.
+    pub fn is_same(&self, other: &Walks) -> bool
+        ensures { IsTrue result ↔ (self.now.rows ≡ other.now.rows) }
+    {
+        are_same(self.as_slice(), other.as_slice())
     }
 
     /// The walks, in order of waiting.

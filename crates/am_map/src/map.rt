@@ -1,12 +1,12 @@
 //! A map that has been read.
 
-ghost use Rattle.std.specs.Prelude.{◌≡◌, ◌≤◌, ◌+◌, [], ℕ, length, is_some, IfOk, IfErr, OnOk, OnErr, find};
+ghost use Rattle.std.specs.Prelude.{◌≡◌, ◌≤◌, ◌+◌, ◌↔◌, [], ℕ, length, slice_get, is_some, IsTrue, IfOk, IfErr, OnOk, OnErr, find};
 ghost use Rattle.std.specs.Option.{option_copied, option_map};
 ghost use Rattle.am_lines.specs.{words_of, statements, statement_of_words, IsReached};
 ghost use Rattle.am_map.specs.LookUp.{has_key, row_for, entry_for};
 ghost use Rattle.am_map.specs.Fault.{IsFaultOr};
 ghost use Rattle.am_map.specs.Grammar.{map_read, rows_read, AreRows, ReadAs, FindsFirst, keyed, entry_read};
-ghost use Rattle.am_map.specs.Parts.{entry_of};
+ghost use Rattle.am_map.specs.Parts.{entry_of, lent_row};
 ghost use Rattle.am_map.specs.Stored.{row_added, added, line_added};
 
 use crate::entry::Entry;
@@ -73,6 +73,50 @@ impl Map {
         Ok(Map {
             rows: self.rows.clone()?,
         })
+    }
+
+    /// The key and the entry at this index.
+    fn row(&self, index: usize) -> Option<(&[u8], &Entry)>
+        ensures { option_map lent_row result ≡ slice_get self.now index }
+    {
+        let (key, entry) = self.rows.get_index(index)?;
+        Some((key.as_slice(), entry))
+    }
+
+    /// Whether both have the same row at this index, or both none.
+    fn is_same_at(&self, other: &Map, index: usize) -> bool
+        ensures { IsTrue result ↔ (slice_get self.now index ≡ slice_get other.now index) }
+    {
+        match (self.row(index), other.row(index)) {
+            (Some((key, entry)), Some((other_key, other_entry))) => {
+                key == other_key && entry.is_same(other_entry)
+            }
+            (None, None) => true,
+            (None, Some(_)) | (Some(_), None) => false,
+        }
+    }
+
+    /// How many rows there are.
+    fn len(&self) -> usize
+        ensures { result ≡ length self.now }
+    {
+        self.rows.len()
+    }
+
+    /// Whether both have the same rows in the same order.
+    #[tactic(auto, using(am_names::proofs::Basics::one_more_alike))]
+    pub fn is_same(&self, other: &Map) -> bool
+        ensures { IsTrue result ↔ (self.now ≡ other.now) }
+    {
+        if self.len() != other.len() {
+            return false;
+        }
+        for index in 0..self.len() {
+            if !self.is_same_at(other, index) {
+                return false;
+            }
+        }
+        true
     }
 
     /// The entry of the first line with this key, else of the first `*` line, with each `&` of

@@ -1,6 +1,6 @@
 //! A line of the master map.
 
-ghost use Rattle.std.specs.Prelude.{◌≡◌, IfOk};
+ghost use Rattle.std.specs.Prelude.{◌≡◌, ◌↔◌, IsTrue, IfOk};
 
 use crate::point::Point;
 use std::alloc::{AllocError, Global};
@@ -39,5 +39,15 @@ impl MasterEntry {
             timeout: self.timeout,
             line: self.line,
         })
+    }
+
+    /// Whether both are the same line.
+    pub fn is_same(&self, other: &MasterEntry) -> bool
+        ensures { IsTrue result ↔ (self.now ≡ other.now) }
+    {
+        self.line == other.line
+            && self.timeout == other.timeout
+            && self.point.is_same(&other.point)
+            && self.map.as_slice() == other.map.as_slice()
     }
 }

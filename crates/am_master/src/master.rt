@@ -1,6 +1,6 @@
 //! A master map that has been read.
 
-ghost use Rattle.std.specs.Prelude.{◌≡◌, ◌≤◌, ◌+◌, ◌∷◌, ◌++◌, [], length, IfOk, IfErr, OnOk, OnErr, IsOk, false};
+ghost use Rattle.std.specs.Prelude.{◌≡◌, ◌≤◌, ◌+◌, ◌∷◌, ◌++◌, ◌↔◌, [], length, IfOk, IfErr, OnOk, OnErr, IsOk, IsTrue, false};
 ghost use Rattle.std.specs.Str.{bytes_eq};
 ghost use Rattle.std.specs.List.{list_any};
 ghost use Rattle.am_lines.specs.{words_of, statement_of_words, IsReached};
@@ -50,6 +50,17 @@ fn copies_of(alloc: Global, entries: &[MasterEntry]) -> Result<Vec<MasterEntry>,
     Ok(copies)
 }
 
+/// Whether these are the same lines.
+fn are_same(entries: &[MasterEntry], others: &[MasterEntry]) -> bool
+    ensures { IsTrue result ↔ (entries.now ≡ others.now) }
+{
+    entries.len() == others.len()
+        && entries
+            .iter()
+            .zip(others)
+            .all(|(entry, other)| entry.is_same(other))
+}
+
 impl Master {
     /// Reads a whole text, or tells its first faulty line.
     pub fn read(alloc: Global, text: &[u8]) -> Result<Master, MasterFault>
@@ -88,6 +99,13 @@ impl Master {
             entries: copies_of(alloc, self.entries.as_slice())?,
             points: self.points.copy()?,
         })
+    }
+
+    /// Whether both have the same lines.
+    pub fn is_same(&self, other: &Master) -> bool
+        ensures { IsTrue result ↔ (self.now ≡ other.now) }
+    {
+        are_same(self.entries(), other.entries())
     }
 
     /// The lines, in their order.

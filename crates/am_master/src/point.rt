@@ -1,6 +1,6 @@
 //! Where an autofs is mounted.
 
-ghost use Rattle.std.specs.Prelude.{◌≡◌, IfOk};
+ghost use Rattle.std.specs.Prelude.{◌≡◌, ◌↔◌, IsTrue, IfOk};
 
 use am_names::Place;
 use std::alloc::{AllocError, Global};
@@ -22,6 +22,17 @@ impl Point {
         match self {
             Point::Direct => Ok(Point::Direct),
             Point::Indirect(path) => Ok(Point::Indirect(path.copy(alloc)?)),
+        }
+    }
+
+    /// Whether both are the same point.
+    pub fn is_same(&self, other: &Point) -> bool
+        ensures { IsTrue result ↔ (self.now ≡ other.now) }
+    {
+        match (self, other) {
+            (Point::Direct, Point::Direct) => true,
+            (Point::Indirect(path), Point::Indirect(other)) => path.is_same(other),
+            (Point::Direct, Point::Indirect(_)) | (Point::Indirect(_), Point::Direct) => false,
         }
     }
 }

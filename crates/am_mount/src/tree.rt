@@ -51,6 +51,17 @@ impl Model for Tree {
     ghost invariant = { IsOrdered };
 }
 
+/// Whether these are the same mounts in the same order.
+fn are_same(rows: &[MountRow], others: &[MountRow]) -> bool
+    ensures { IsTrue result ↔ (rows.now ≡ others.now) }
+{
+    rows.len() == others.len()
+        && rows
+            .iter()
+            .zip(others)
+            .all(|(row, other)| row.is_same(other))
+}
+
 fn is_at(mount: MountId, place: &[u8], row: &MountRow) -> bool
     requires { IsCanonical place.now }
     ensures { result ≡ is_at mount (names_of place.now) row.now }
@@ -322,6 +333,13 @@ impl Tree {
         copy.watch_all(self)?;
         copy.add_all(rows)?;
         Ok(copy)
+    }
+
+    /// Whether both have the same mounts, whichever are watched.
+    pub fn is_same(&self, other: &Tree) -> bool
+        ensures { IsTrue result ↔ (self.now ≡ other.now) }
+    {
+        are_same(self.rows(), other.rows())
     }
 
     /// All rows, in rising order of number.

@@ -1,5 +1,5 @@
 -- What is true of any Boolean, number, option or list.
-use Rattle.std.proofs.Common.{◌≡◌, ℕ, Bool, true, false, cond, ◌||◌, List, [], ◌∷◌, Option, Some, None, Result, Ok, Err, refl, subst, arith}
+use Rattle.std.proofs.Common.{◌≡◌, ℕ, zero, suc, ◌+◌, Bool, true, false, cond, ◌||◌, List, [], ◌∷◌, take, slice_get, Option, Some, None, Result, Ok, Err, refl, sym, ap, subst, ◌∙◌, arith}
 use Rattle.std.specs.Prelude.{◌&&◌, ◌==◌, not, find, is_some, IsOk, OnOk}
 use Rattle.std.specs.Option.{option_map}
 use Rattle.std.proofs.lemmas.Bool.{eq-eqb}
@@ -134,3 +134,22 @@ found_passes {R} test (x ∷ rows) r e = go (test x) refl e (found_passes test r
     go : (b : Bool) → test x ≡ b → cond b (Some x) (find test rows) ≡ Some r → (find test rows ≡ Some r → test r ≡ true) → test r ≡ true
     go true t e ih = let same : x ≡ r = cc in subst (λ (y : R). test y ≡ true) same t
     go false t e ih = ih e
+
+taken_alike : {X : Type 0} (xs ys : List X) (i : ℕ) → take i xs ≡ take i ys → slice_get xs i ≡ slice_get ys i → take (suc i) xs ≡ take (suc i) ys
+taken_alike [] [] i h e = refl
+taken_alike [] (y ∷ ys) zero h e = absurd (none_is_not_some y e)
+taken_alike [] (y ∷ ys) (suc i) h e = absurd cc
+taken_alike (x ∷ xs) [] zero h e = absurd (none_is_not_some x (sym e))
+taken_alike (x ∷ xs) [] (suc i) h e = absurd cc
+taken_alike (x ∷ xs) (y ∷ ys) zero h e = ap (λ row. row ∷ []) (some_injective e)
+taken_alike (x ∷ xs) (y ∷ ys) (suc i) h e =
+    let first : x ≡ y = cc in
+    let before : take i xs ≡ take i ys = cc in
+    let others : take (suc i) xs ≡ take (suc i) ys = taken_alike xs ys i before e in
+    cc
+
+-- those before a row are the same in both lists, and so is the row
+pub one_more_alike : {X : Type 0} (xs ys : List X) (i : ℕ) → take i xs ≡ take i ys → slice_get xs i ≡ slice_get ys i → take (i + 1) xs ≡ take (i + 1) ys
+one_more_alike xs ys i h e =
+    let next : i + 1 ≡ suc i = omega arith in
+    ap (λ (n : ℕ). take n xs) next ∙ taken_alike xs ys i h e ∙ ap (λ (n : ℕ). take n ys) (sym next)

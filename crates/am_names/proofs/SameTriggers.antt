@@ -65,3 +65,10 @@ names_eq_is_same_name (Some a) (Some b) = same_from_decides (name_eq.it a b) (by
 -- the index tells triggers apart as `same_trigger` does
 pub key_is_same_trigger : (a b : Trigger) → eq-value.it a b ≡ same_trigger b a
 key_is_same_trigger a b = ap (λ (t : Bool). (a.fs == b.fs) && t) (names_eq_is_same_name a.name b.name) ∙ same_trigger_either_way a b
+
+-- the index tells whether two triggers are one
+pub key_decides : (a b : Trigger) → Decides (eq-value.it a b) (a ≡ b)
+key_decides a b =
+    let same : eq-value.it a b ≡ same_trigger b a = key_is_same_trigger a b in
+    let one : Decides (same_trigger b a) (b ≡ a) = same_trigger-Decides b a in
+    (λ h. sym (one.0 (sym same ∙ h)), λ e. same ∙ one.1 (sym e))

@@ -65,6 +65,28 @@ impl MountRow {
             mountpoint,
         })
     }
+
+    /// Whether both are the same mount, mounted at the same place.
+    pub fn is_same(&self, other: &MountRow) -> bool
+        ensures { IsTrue result ↔ (self.now ≡ other.now) }
+    {
+        self.mount == other.mount
+            && self.ns == other.ns
+            && self.fs == other.fs
+            && self.origin == other.origin
+            && is_same_mountpoint(&self.mountpoint, &other.mountpoint)
+    }
+}
+
+/// Whether both are none, or the same position.
+fn is_same_mountpoint(one: &Option<Position>, other: &Option<Position>) -> bool
+    ensures { IsTrue result ↔ (one.now ≡ other.now) }
+{
+    match (one, other) {
+        (None, None) => true,
+        (Some(position), Some(other)) => position.is_same(other),
+        (None, Some(_)) | (Some(_), None) => false,
+    }
 }
 
 /// The propagation of a mount (sharedsubtree.rst, 5a). Clauses see its peer group, its master and

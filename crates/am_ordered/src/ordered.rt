@@ -1,6 +1,7 @@
 //! The map.
 
-ghost use Rattle.std.specs.Prelude.{◌≡◌, ◌≤◌, ◌<◌, ◌+◌, ◌^◌, [], length, remove, take, slice_get, is_some, IsSome, IsNone, Some, IfOk, OnOk, OnErr, option_copied};
+ghost use Rattle.std.specs.Prelude.{◌≡◌, ◌≤◌, ◌<◌, ◌+◌, ◌^◌, ◌↔◌, [], length, remove, take, slice_get, is_some, IsSome, IsNone, IsTrue, Some, IfOk, OnOk, OnErr, option_copied};
+ghost use Rattle.std.specs.Bool.{Decides};
 ghost use Rattle.std.specs.List.{IsDistinct};
 ghost use Rattle.std.specs.Map.{keys_of, lookup};
 ghost use Rattle.std.specs.Map.Iter.{deref_pair};
@@ -242,6 +243,45 @@ impl<K: Eq + Hash, V> OrderedMap<K, V> {
             copy.copy_row(self, index);
         }
         Ok(copy)
+    }
+
+    /// Whether both have the same key with the same value at this index, or both none.
+    fn is_same_at(&self, other: &OrderedMap<K, V>, index: usize) -> bool
+    where
+        V: PartialEq,
+        requires keys { (a b : K) → Decides (K.eq a b) (a ≡ b) }
+        requires values { (a b : V) → Decides (V.eq a b) (a ≡ b) }
+        ensures { IsTrue result
+            ↔ (slice_get self.now.entries index ≡ slice_get other.now.entries index) }
+    {
+        match (self.get_index(index), other.get_index(index)) {
+            (Some((key, value)), Some((other_key, other_value))) => {
+                *key == *other_key && *value == *other_value
+            }
+            (None, None) => true,
+            (None, Some(_)) | (Some(_), None) => false,
+        }
+    }
+
+    /// Whether both have the same keys in the same order, each with the same value. Where `==` says
+    /// of keys and of values whether they are the same, so does this of maps.
+    #[tactic(auto, using(crate::proofs::SameLemmas::one_more_alike))]
+    pub fn is_same(&self, other: &OrderedMap<K, V>) -> bool
+    where
+        V: PartialEq,
+        requires keys { (a b : K) → Decides (K.eq a b) (a ≡ b) }
+        requires values { (a b : V) → Decides (V.eq a b) (a ≡ b) }
+        ensures { IsTrue result ↔ (self.now.entries ≡ other.now.entries) }
+    {
+        if self.len() != other.len() {
+            return false;
+        }
+        for index in 0..self.len() {
+            if !self.is_same_at(other, index) {
+                return false;
+            }
+        }
+        true
     }
 
     /// Takes out every key. No memory is taken.

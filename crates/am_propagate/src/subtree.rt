@@ -1,6 +1,6 @@
 //! All mounts with their propagation.
 
-ghost use Rattle.std.specs.Prelude.{◌≡◌, None, IfOk, OnOk, OnErr};
+ghost use Rattle.std.specs.Prelude.{◌≡◌, ◌↔◌, None, IsTrue, IfOk, OnOk, OnErr};
 ghost use Rattle.am_names.specs.{RefusedAs};
 ghost use Rattle.am_group.specs.{AddsNoReceivers, FollowsTable, change_refusal};
 ghost use Rattle.am_propagate.specs.Changed.{with_change};
@@ -82,6 +82,17 @@ impl Subtree {
             last_ns: self.last_ns,
             limit: self.limit,
         })
+    }
+
+    /// Whether both have the same mounts with the same propagation, and give the same numbers next.
+    pub fn is_same(&self, other: &Subtree) -> bool
+        ensures { IsTrue result ↔ (self.now ≡ other.now) }
+    {
+        self.last_mount == other.last_mount
+            && self.last_ns == other.last_ns
+            && self.limit == other.limit
+            && self.tree.is_same(&other.tree)
+            && self.groups.is_same(&other.groups)
     }
 
     /// The mount rows.

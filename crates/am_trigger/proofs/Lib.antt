@@ -2,3 +2,4 @@ pub mod KeyLemmas
 pub mod TriggerLemmas
 mod FailureLemmas
 mod FileSystemLemmas
+mod SameLemmas

@@ -1,6 +1,6 @@
 //! What failed last at each trigger, and how long that lasts.
 
-ghost use Rattle.std.specs.Prelude.{◌≡◌, ◌≤◌, ◌+◌, ◌==◌, length, not, [], None, Some, filter, remove, slice_get, if◌then◌else◌, IfOk, IfSome, OnOk};
+ghost use Rattle.std.specs.Prelude.{◌≡◌, ◌≤◌, ◌+◌, ◌==◌, ◌↔◌, length, not, [], None, Some, filter, remove, slice_get, if◌then◌else◌, IsTrue, IfOk, IfSome, OnOk};
 ghost use Rattle.am_names.specs.{RefusedAs};
 ghost use Rattle.am_trigger.specs.Failures.{lasts, failure_of, failing, with_failure, without_failure, without_failures, IsFailed, IsMended};
 
@@ -103,6 +103,14 @@ impl Failures {
         Ok(Failures {
             rows: self.rows.copy(alloc)?,
         })
+    }
+
+    /// Whether the same failed at the same triggers, in the same order.
+    #[tactic(auto, using(am_names::proofs::SameTriggers::key_decides, crate::proofs::SameLemmas::failure_decides))]
+    pub fn is_same(&self, other: &Failures) -> bool
+        ensures { IsTrue result ↔ (self.now.rows ≡ other.now.rows) }
+    {
+        self.rows.is_same(&other.rows)
     }
 
     /// At how many triggers something failed.

@@ -1,10 +1,11 @@
 //! Each autofs, found by its number.
 
-ghost use Rattle.std.specs.Prelude.{◌≡◌, ◌≤◌, ◌+◌, ◌++◌, ◌∷◌, ◌==◌, [], None, find, map, IfOk, OnOk};
+ghost use Rattle.std.specs.Prelude.{◌≡◌, ◌≤◌, ◌+◌, ◌++◌, ◌∷◌, ◌==◌, ◌↔◌, [], None, find, map, IsTrue, IfOk, OnOk};
 ghost use Rattle.am_trigger.specs.Rows.{catatonic_row};
 
 use crate::autofs::Autofs;
 use am_names::FsId;
+use am_ordered::are_same;
 use indexmap::IndexMap;
 use std::alloc::{AllocError, Global};
 use std::marker::Model;
@@ -51,6 +52,14 @@ impl FileSystems {
             entries,
             room: self.room,
         })
+    }
+
+    /// Whether both are the same, in the same order.
+    #[tactic(auto, using(crate::proofs::SameLemmas::autofs_decides, crate::proofs::SameLemmas::known_by_values))]
+    pub fn is_same(&self, other: &FileSystems) -> bool
+        ensures { IsTrue result ↔ (self.now.rows ≡ other.now.rows) }
+    {
+        are_same(&self.entries, &other.entries)
     }
 
     /// The autofs of this number.

@@ -1,6 +1,6 @@
 //! The triggers of all autofs file systems.
 
-ghost use Rattle.std.specs.Prelude.{◌≡◌, ◌<◌, ◌≤◌, ◌+◌, length, slice_get, None, IfOk, OnOk, OnErr};
+ghost use Rattle.std.specs.Prelude.{◌≡◌, ◌<◌, ◌≤◌, ◌+◌, ◌↔◌, length, slice_get, None, IsTrue, IfOk, OnOk, OnErr};
 ghost use Rattle.am_names.specs.{RefusedAs, RefusedOnlyAs};
 ghost use Rattle.am_trigger.specs.Rows.{no_triggers, autofs_of, add_refusal, with_autofs, catatonic_refusal, with_catatonic, is_made, mkdir_refusal, with_directory, IsMadeToo, rmdir_refusal, without_directory, IsMadeNoMore, last_use_of, used_in, used, all_used_in, all_used, IsUsedAt};
 ghost use Rattle.am_trigger.specs.Capacity.{KeepsRoom};
@@ -9,7 +9,7 @@ ghost use Rattle.indexmap.specs.IndexMap.{spare};
 use crate::autofs::Autofs;
 use crate::file_systems::FileSystems;
 use am_names::{Errno, FsId, MountId, Name, Seconds, Trigger};
-use am_ordered::OrderedMap;
+use am_ordered::{OrderedMap, are_same};
 use indexmap::IndexMap;
 use std::alloc::{AllocError, Global};
 use std::marker::Model;
@@ -88,6 +88,16 @@ impl Triggers {
             made: self.made.copy(alloc)?,
             uses: copy_uses(&self.uses)?,
         })
+    }
+
+    /// Whether both have the same file systems, directories and last uses.
+    #[tactic(auto, using(am_names::proofs::SameTriggers::key_decides, crate::proofs::SameLemmas::known_by_keys))]
+    pub fn is_same(&self, other: &Triggers) -> bool
+        ensures { IsTrue result ↔ (self.now.rows ≡ other.now.rows) }
+    {
+        self.autofs.is_same(&other.autofs)
+            && self.made.is_same(&other.made)
+            && are_same(&self.uses, &other.uses)
     }
 
     /// The autofs of this number.

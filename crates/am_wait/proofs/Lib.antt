@@ -17,3 +17,4 @@ pub mod FailLemmas
 pub mod ViewLemmas
 mod OpeningLemmas
 mod CopyLemmas
+pub mod AlikeLemmas

@@ -80,3 +80,17 @@ waits_in slab seats = map (λ seat. row_at slab seat.key) seats
 -- the seat leads to the wait of its walker
 abbrev pub IsSeat : Slab WaitRow → Seat → Type 0
 IsSeat slab seat = (row : WaitRow) × (get slab seat.key ≡ Some row) × (row.walker ≡ seat.walker)
+
+-- the wait at a key, if there is one
+abbrev pub wait_at : Slab WaitRow → Option ℕ → Option WaitRow
+wait_at slab None = None
+wait_at slab (Some key) = get slab key
+
+-- the wait of a walker, by its seat
+abbrev pub its_wait : Slab WaitRow → List Seat → ℕ → Option WaitRow
+its_wait slab seats walker = wait_at slab (key_of seats walker)
+
+-- the walker has the same wait by its seat here as by its seat there
+abbrev pub HasSameWait : Slab WaitRow → List Seat → Slab WaitRow → List Seat → ℕ → Type 0
+HasSameWait slab seats others other_seats walker =
+    its_wait slab seats walker ≡ its_wait others other_seats walker

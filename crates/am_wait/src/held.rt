@@ -1,14 +1,16 @@
 //! The rows of the open tokens, each with the keys of those that wait on it.
 
-ghost use Rattle.std.specs.Prelude.{◌≡◌, ◌<◌, ◌==◌, ◌∷◌, ◌++◌, [], nat_le, filter, position, set, get_or, not, option_copied, IfOk, OnOk, OnErr};
+ghost use Rattle.std.specs.Prelude.{◌≡◌, ◌<◌, ◌==◌, ◌∷◌, ◌++◌, ◌↔◌, [], nat_le, filter, position, set, get_or, not, option_copied, IsTrue, IfOk, OnOk, OnErr};
 ghost use Rattle.std.specs.List.{position_or_len};
 ghost use Rattle.std.specs.VecDeque.{deque_len};
 ghost use Rattle.am_names.specs.{RiseBy};
 ghost use Rattle.am_wait.specs.declared.held.HeldToken.{HeldToken as Held};
-ghost use Rattle.am_wait.specs.Held.{held_of, without_held, joined_key, with_key, held_tokens_of};
+ghost use Rattle.am_wait.specs.Held.{held_of, without_held, joined_key, with_key, held_tokens_of, token_in, tokens_in};
 
 use crate::keys::Keys;
-use am_names::{FsId, Token, TokenKind, Trigger};
+use crate::seats::are_same_walkers;
+use am_names::{FsId, Token, TokenKind, Trigger, WaitRow};
+use slab::Slab;
 use std::alloc::{AllocError, Global};
 use std::collections::VecDeque;
 
@@ -33,6 +35,56 @@ impl HeldToken {
             keys: self.keys.copy(alloc)?,
         })
     }
+
+    /// Whether both are the same token, on which the same walkers wait. Their waits are in these
+    /// slabs.
+    #[tactic(auto, using(am_names::proofs::SameTriggers::equal_by_same_trigger, am_names::proofs::SameTriggers::same_trigger_itself))]
+    fn is_same(&self, slab: &Slab<WaitRow>, other: &HeldToken, others: &Slab<WaitRow>) -> bool
+        ensures { IsTrue result ↔ (token_in slab.now self.now ≡ token_in others.now other.now) }
+    {
+        self.token == other.token
+            && self.kind == other.kind
+            && self.trigger.is_same(&other.trigger)
+            && are_same_walkers(slab, self.keys.as_slice(), others, other.keys.as_slice())
+    }
+}
+
+/// Whether the tokens at this place are the same, on which the same walkers wait.
+fn is_same_at(
+    slab: &Slab<WaitRow>,
+    tokens: &VecDeque<HeldToken>,
+    others: &Slab<WaitRow>,
+    other_tokens: &VecDeque<HeldToken>,
+    at: usize,
+) -> bool
+    requires within { at < deque_len tokens.now }
+    requires within_others { at < deque_len other_tokens.now }
+    ensures { (d e : Held) → IsTrue result ↔ (token_in slab.now (get_or tokens.now.items at d)
+        ≡ token_in others.now (get_or other_tokens.now.items at e)) }
+{
+    tokens[at].is_same(slab, &other_tokens[at], others)
+}
+
+/// Whether these are the same tokens, on which the same walkers wait. Their waits are in these
+/// slabs.
+pub fn are_same_tokens(
+    slab: &Slab<WaitRow>,
+    tokens: &VecDeque<HeldToken>,
+    others: &Slab<WaitRow>,
+    other_tokens: &VecDeque<HeldToken>,
+) -> bool
+    ensures { IsTrue result
+        ↔ (tokens_in slab.now tokens.now.items ≡ tokens_in others.now other_tokens.now.items) }
+{
+    if tokens.len() != other_tokens.len() {
+        return false;
+    }
+    for at in 0..tokens.len() {
+        if !is_same_at(slab, tokens, others, other_tokens, at) {
+            return false;
+        }
+    }
+    true
 }
 
 /// The same rows once more.

@@ -1,13 +1,13 @@
 //! The key of the wait of each walker, found by hash.
 
-ghost use Rattle.std.specs.Prelude.{ℕ, ◌≡◌, ◌≤◌, [], length, IfOk, OnOk, if◌then◌else◌};
+ghost use Rattle.std.specs.Prelude.{ℕ, ◌≡◌, ◌≤◌, ◌<◌, ◌↔◌, [], length, get_or, All, IsTrue, IfOk, OnOk, if◌then◌else◌};
 ghost use Rattle.std.specs.Option.{option_map};
 ghost use Rattle.slab.specs.Slab.{get};
 ghost use Rattle.indexmap.specs.IndexMap.{values};
 ghost use Rattle.am_wait.specs.Calls.{failed_row};
-ghost use Rattle.am_wait.specs.Seats.{key_of, with_seat, without_seat, among_keys, sits_at};
+ghost use Rattle.am_wait.specs.Seats.{key_of, with_seat, without_seat, among_keys, sits_at, its_wait, HasSameWait};
 
-use crate::seats::{Seat, fail_wait};
+use crate::seats::{Seat, fail_wait, is_same_wait};
 use am_names::{FsId, WaitRow, WalkerId};
 use indexmap::IndexMap;
 use slab::Slab;
@@ -42,6 +42,58 @@ fn fail_waits_at(slab: &mut Slab<WaitRow>, keys: &IndexMap<u32, usize>, fs: FsId
     }
 }
 
+/// Whether the walker has the same wait in both slabs, by its seats.
+fn is_same_wait_of(
+    walker: WalkerId,
+    seats: &Seating,
+    slab: &Slab<WaitRow>,
+    other: &Seating,
+    others: &Slab<WaitRow>,
+) -> bool
+    ensures { IsTrue result
+        ↔ HasSameWait slab.now seats.now.rows others.now other.now.rows walker }
+{
+    is_same_wait(&seats.wait_in(slab, walker), &other.wait_in(others, walker))
+}
+
+/// Whether the walker at this index has the same wait in both slabs, by its seats.
+fn is_same_at(
+    keys: &IndexMap<u32, usize>,
+    seats: &Seating,
+    slab: &Slab<WaitRow>,
+    other: &Seating,
+    others: &Slab<WaitRow>,
+    index: usize,
+) -> bool
+    requires { index < length keys.now.entries }
+    ensures { (d : ℕ × ℕ) → IsTrue result ↔ HasSameWait slab.now seats.now.rows others.now
+        other.now.rows (get_or keys.now.entries index d).0 }
+{
+    match keys.get_index(index) {
+        Some((walker, _)) => is_same_wait_of(WalkerId(*walker), seats, slab, other, others),
+        None => true,
+    }
+}
+
+/// Whether each walker that has a key has the same wait in both slabs, by its seats.
+fn are_same_waits(
+    keys: &IndexMap<u32, usize>,
+    seats: &Seating,
+    slab: &Slab<WaitRow>,
+    other: &Seating,
+    others: &Slab<WaitRow>,
+) -> bool
+    ensures { IsTrue result ↔ All (λ entry.
+        HasSameWait slab.now seats.now.rows others.now other.now.rows entry.0) keys.now.entries }
+{
+    for index in 0..keys.len() {
+        if !is_same_at(keys, seats, slab, other, others, index) {
+            return false;
+        }
+    }
+    true
+}
+
 impl Seating {
     /// No walker.
     pub fn new(alloc: Global) -> Seating
@@ -74,6 +126,30 @@ impl Seating {
         ensures { result ≡ key_of self.now.rows walker }
     {
         self.keys.get(&walker.0).copied()
+    }
+
+    /// The wait of a walker in this slab, by its seat.
+    fn wait_in(&self, slab: &Slab<WaitRow>, walker: WalkerId) -> Option<WaitRow>
+        ensures { result ≡ its_wait slab.now self.now.rows walker }
+    {
+        let Some(key) = self.key_of(walker) else {
+            return None;
+        };
+        slab.get(key).copied()
+    }
+
+    /// Whether each walker that has a seat has the same wait in the other slab, by its seat there.
+    pub fn are_same_waits(
+        &self,
+        slab: &Slab<WaitRow>,
+        other: &Seating,
+        others: &Slab<WaitRow>,
+    ) -> bool
+        ensures { IsTrue result
+            ↔ All (λ seat. HasSameWait slab.now self.now.rows others.now other.now.rows seat.walker)
+            self.now.rows }
+    {
+        are_same_waits(&self.keys, self, slab, other, others)
     }
 
     /// Room for one more walker.

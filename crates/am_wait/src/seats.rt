@@ -1,11 +1,11 @@
 //! The waits in the slab, each at the key of its walker.
 
-ghost use Rattle.std.specs.Prelude.{ℕ, false, ◌≡◌, ◌≤◌, ◌==◌, length, None, Some, IsSome, All, IfOk, OnOk, if◌then◌else◌};
+ghost use Rattle.std.specs.Prelude.{ℕ, false, ◌≡◌, ◌≤◌, ◌==◌, ◌↔◌, length, None, Some, IsSome, IsTrue, All, IfOk, OnOk, if◌then◌else◌};
 ghost use Rattle.std.specs.Option.{option_map};
 ghost use Rattle.slab.specs.Slab.{get, HasRoomFor};
 ghost use Rattle.am_names.specs.{RiseBy};
 ghost use Rattle.am_wait.specs.Calls.{failed_row};
-ghost use Rattle.am_wait.specs.Seats.{key_of, with_status, among_keys, with_seat, without_seat, frees, next_key, walkers_at, seat_at};
+ghost use Rattle.am_wait.specs.Seats.{key_of, with_status, among_keys, with_seat, without_seat, frees, next_key, row_at, walkers_at, seat_at};
 
 use crate::seating::Seating;
 use am_names::{FailNo, FsId, Name, Status, TokenKind, Trigger, WaitRow, WalkerId};
@@ -59,6 +59,63 @@ pub fn walkers_at(
         }
     }
     Ok(walkers)
+}
+
+/// The walker whose wait is at this key, 0 for none.
+fn walker_at(slab: &Slab<WaitRow>, key: usize) -> WalkerId
+    ensures { result ≡ (row_at slab.now key).walker }
+{
+    match slab.get(key) {
+        Some(wait) => wait.walker,
+        None => WalkerId(0),
+    }
+}
+
+/// Whether the walker whose wait is at this key is that of the other slab at the other key.
+fn is_same_walker(slab: &Slab<WaitRow>, key: usize, others: &Slab<WaitRow>, other: usize) -> bool
+    ensures { IsTrue result ↔ ((row_at slab.now key).walker ≡ (row_at others.now other).walker) }
+{
+    walker_at(slab, key) == walker_at(others, other)
+}
+
+/// Whether the walkers whose waits are at these keys are those of the other slab at the other keys,
+/// in the same order.
+pub fn are_same_walkers(
+    slab: &Slab<WaitRow>,
+    keys: &[usize],
+    others: &Slab<WaitRow>,
+    other_keys: &[usize],
+) -> bool
+    ensures { IsTrue result
+        ↔ (walkers_at slab.now keys.now ≡ walkers_at others.now other_keys.now) }
+{
+    if keys.len() != other_keys.len() {
+        return false;
+    }
+    for at in 0..keys.len() {
+        if !is_same_walker(slab, keys[at], others, other_keys[at]) {
+            return false;
+        }
+    }
+    true
+}
+
+/// Whether both are none, or the same wait.
+#[tactic(auto, using(am_names::proofs::SameTriggers::equal_by_same_trigger, am_names::proofs::SameTriggers::same_trigger_itself))]
+pub fn is_same_wait(one: &Option<WaitRow>, other: &Option<WaitRow>) -> bool
+    ensures { IsTrue result ↔ (one.now ≡ other.now) }
+{
+    match (one, other) {
+        (None, None) => true,
+        (Some(wait), Some(other)) => {
+            wait.walker == other.walker
+                && wait.token == other.token
+                && wait.kind == other.kind
+                && wait.status == other.status
+                && wait.trigger.is_same(&other.trigger)
+        }
+        (None, Some(_)) | (Some(_), None) => false,
+    }
 }
 
 /// The same waits at the same keys once more.

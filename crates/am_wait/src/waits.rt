@@ -1,6 +1,6 @@
 //! Open tokens, and the walkers that wait on them.
 
-ghost use Rattle.std.specs.Prelude.{◌≡◌, ◌<◌, ◌+◌, ◌^◌, Some, length, IfOk, OnOk, OnErr};
+ghost use Rattle.std.specs.Prelude.{◌≡◌, ◌<◌, ◌+◌, ◌^◌, ◌↔◌, Some, length, IsTrue, IfOk, OnOk, OnErr};
 ghost use Rattle.std.specs.Option.{option_map};
 ghost use Rattle.am_names.specs.{RefusedAs, RefusedOnlyAs};
 ghost use Rattle.am_wait.specs.Rows.{no_waits, open_on, token_of, wait_of, waiters_of, tokens_of};
@@ -8,7 +8,7 @@ ghost use Rattle.am_wait.specs.Invariant.{IsSound};
 ghost use Rattle.am_wait.specs.Calls.{is_exhausted, is_full, open_refusal, waiting_on, opened, join_refusal, joined, answer_refusal, answered, fs_released, collect_refusal, status_of, collected};
 
 use crate::held;
-use crate::held::held_of;
+use crate::held::{are_same_tokens, held_of};
 use crate::seating::Seating;
 use crate::seats::{copy_of, set_statuses, take_wait, walkers_at};
 use crate::tokens::HeldTokens;
@@ -83,6 +83,33 @@ impl Waits {
             most_waits: self.most_waits,
             most_tokens: self.most_tokens,
         })
+    }
+
+    /// Whether both have the same waits.
+    fn has_same_waits(&self, other: &Waits) -> bool
+        ensures { IsTrue result ↔ (self.now.waits ≡ other.now.waits) }
+    {
+        self.seats
+            .are_same_waits(&self.slab, &other.seats, &other.slab)
+            && other
+                .seats
+                .are_same_waits(&other.slab, &self.seats, &self.slab)
+    }
+
+    /// Whether both have the same tokens and waits, and give the same tokens next.
+    pub fn is_same(&self, other: &Waits) -> bool
+        ensures { IsTrue result ↔ (self.now ≡ other.now) }
+    {
+        self.last_token == other.last_token
+            && self.most_waits == other.most_waits
+            && self.most_tokens == other.most_tokens
+            && are_same_tokens(
+                &self.slab,
+                self.tokens.rows(),
+                &other.slab,
+                other.tokens.rows(),
+            )
+            && self.has_same_waits(other)
     }
 
     /// The open token of this kind for a trigger.

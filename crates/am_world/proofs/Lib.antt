@@ -5,3 +5,4 @@ pub mod WentLemmas
 pub mod OtherLemmas
 pub mod TableLemmas
 pub mod BehindLemmas
+mod SameLemmas

@@ -1,6 +1,6 @@
 //! The world: what happens to it, event by event.
 
-ghost use Rattle.std.specs.Prelude.{◌≡◌, ◌+◌, List, [], ◌∷◌, drop, length, None, IfOk, IfErr};
+ghost use Rattle.std.specs.Prelude.{◌≡◌, ◌+◌, ◌↔◌, List, [], ◌∷◌, drop, length, None, IsTrue, IfOk, IfErr};
 ghost use Rattle.std.specs.Option.{option_map, option_copied};
 ghost use Rattle.am_names.specs.{RefusedAs, IsInRange};
 ghost use Rattle.am_state.specs.{Obs};
@@ -11,6 +11,7 @@ ghost use Rattle.am_daemon.specs.{next_act_of, rows_of};
 ghost use Rattle.am_machine.specs.{Agree, AreInStep, IsReached, IsTold, HasPaths, initial_state_of, entry, entries, Step, Run, GoesOnBy, packet_bytes};
 ghost use Rattle.am_world.specs.Capacity.{state_of};
 ghost use Rattle.am_world.specs.Machine.{told};
+ghost use Rattle.am_world.specs.Traceless.{HaveEqualHalves};
 
 use crate::copies::second_copy;
 use crate::deliveries::bytes_of;
@@ -147,6 +148,16 @@ impl World {
             machine: self.machine.copy(alloc)?,
             handed: self.handed.and(&Vec::new(alloc)),
         })
+    }
+
+    /// Whether both halves are the same, whatever was observed: by each event both worlds come to the
+    /// same (`laws::outcomes_read_no_trace`). It takes no memory.
+    #[tactic(auto, using(crate::proofs::SameLemmas::same_halves, crate::proofs::SameLemmas::same_kernels, crate::proofs::SameLemmas::same_daemons))]
+    pub fn is_same(&self, other: &World) -> bool
+        ensures { IsTrue result ↔ HaveEqualHalves (state_of self.now) (state_of other.now) }
+    {
+        self.machine.kernel.is_same(&other.machine.kernel)
+            && self.machine.daemon.is_same(&other.machine.daemon)
     }
 
     /// What was observed so far, but for what was handed on. All of it is lawful, the world is what it

@@ -245,6 +245,60 @@ fn a_world_hands_on_what_was_observed(rt: HostRuntime) -> Result<(), Fail> {
     Ok(())
 }
 
+/// Whether an event that isn't refused makes the one world another than the other, and both are the
+/// same again once it has come to both. The other keeps nothing of what was observed.
+fn tells_apart(alloc: Global, world: &mut World, other: &mut World, event: &Event) -> bool {
+    let is_refused = matches!(world.step(alloc, event), Answer::Refused { .. });
+    let is_same = world.is_same(other);
+    other.answer(alloc, event);
+    is_same == is_refused && world.is_same(other)
+}
+
+/// The walker leaves and comes back at the same moment: more was observed, and the halves are the same.
+fn comes_back(alloc: Global, world: &mut World, other: &World) -> Result<bool, Errno> {
+    world.step(alloc, &leave());
+    let is_same = world.is_same(other);
+    world.step(alloc, &walk(alloc)?);
+    Ok(!is_same && world.is_same(other))
+}
+
+fn are_told_apart(
+    alloc: Global,
+    world: &mut World,
+    other: &mut World,
+    events: &[Event],
+) -> Result<bool, Errno> {
+    let mut are_told = world.is_same(other);
+    for event in events {
+        are_told = tells_apart(alloc, world, other, event) && are_told;
+    }
+    let comes_back = comes_back(alloc, world, other)?;
+    Ok(are_told && comes_back)
+}
+
+/// The world beside another one, which the events have come to as well.
+fn is_told_from_another(
+    alloc: Global,
+    world: &mut World,
+    mut other: World,
+    events: &[Event],
+) -> Result<bool, Errno> {
+    let are_told = are_told_apart(alloc, world, &mut other, events);
+    drop(other);
+    are_told
+}
+
+#[test]
+fn worlds_are_the_same_where_their_halves_are(rt: HostRuntime) -> Result<(), Fail> {
+    let events = events(rt.alloc())?;
+    let other = world(rt.alloc())?;
+    let mut world = world(rt.alloc())?;
+    let is_told = is_told_from_another(rt.alloc(), &mut world, other, events.as_slice());
+    drop(world);
+    assert!(rt; is_told?);
+    Ok(())
+}
+
 /// Makes an event. No mount goes that a walker is inside of, or on which one that stays is mounted.
 fn make_event(alloc: Global, world: &mut World, event: &Event) -> Answer
     ensures { UnmountsNothingInUse (state_of world.old) (state_of world.new) }

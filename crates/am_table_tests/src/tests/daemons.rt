@@ -186,8 +186,9 @@ fn serves(
 
 fn go_on_as_copy(alloc: Global, daemon: &mut Daemon) -> Result<bool, Errno> {
     let copy = daemon.copy(alloc)?;
+    let is_same = copy.is_same(daemon);
     *daemon = copy;
-    Ok(true)
+    Ok(is_same)
 }
 
 fn makes(alloc: Global, daemon: &mut Daemon, call: Call) -> Result<bool, Errno> {

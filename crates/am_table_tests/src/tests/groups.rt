@@ -204,8 +204,9 @@ impl Table {
 
     fn go_on_as_copy(&mut self, alloc: Global) -> Result<bool, Errno> {
         let copy = self.0.copy(alloc)?;
+        let is_same = copy.is_same(&self.0);
         self.0 = copy;
-        Ok(true)
+        Ok(is_same)
     }
 
     fn chain(&mut self, alloc: Global, count: u64) -> Result<bool, Errno> {

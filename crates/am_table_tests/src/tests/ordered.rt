@@ -17,8 +17,9 @@ enum Call {
 
 fn go_on_as_copy(alloc: Global, map: &mut OrderedMap<u32, u32>) -> Result<bool, AllocError> {
     let copy = map.copy(alloc)?;
+    let is_same = copy.is_same(map);
     *map = copy;
-    Ok(true)
+    Ok(is_same)
 }
 
 fn answers(alloc: Global, map: &mut OrderedMap<u32, u32>, call: &Call) -> Result<bool, AllocError> {

@@ -7,12 +7,14 @@ use Rattle.am_world.proofs.BehindLemmas.{outcome_traced, traced}
 use Rattle.am_world.proofs.laws.outcomes_read_no_trace.Goals as goal
 
 pub returns : goal.returns
-returns c s t event kernel daemon =
-    let same : traced t.trace s ≡ t = λ i. record { kernel = kernel i; daemon = daemon i; trace = t.trace } in
+returns c s t event same_halves =
+    let same : traced t.trace s ≡ t = λ i. record { kernel = same_halves.kernel i; daemon = same_halves.daemon i; trace = t.trace } in
     let is = outcome_traced t.trace s event in
     subst (λ (x : State). IsAlike (outcome_of s event) (outcome_of x event)) same (record {
       answer = sym (ap (λ (o : EventOutcome). o.answer) is);
       seen = sym (ap (λ (o : EventOutcome). o.seen) is);
-      kernel = sym (ap (λ (o : EventOutcome). o.state.kernel) is);
-      daemon = sym (ap (λ (o : EventOutcome). o.state.daemon) is);
+      halves = record {
+        kernel = sym (ap (λ (o : EventOutcome). o.state.kernel) is);
+        daemon = sym (ap (λ (o : EventOutcome). o.state.daemon) is);
+      };
     })
