@@ -1,0 +1,125 @@
+-- Orders: they go on step by step, and don't rest on what was observed.
+use Rattle.std.proofs.Common.{◌≡◌, List, [], ◌∷◌, ◌++◌, refl, sym, ap, subst, ◌∙◌, inl, inr}
+use Rattle.std.specs.Prelude.{ℕ, slice_get}
+use Rattle.std.specs.Option.{IsSomeAnd}
+use Rattle.am_machine.specs.{Answer, Event, Run, after, outcome_of}
+use Rattle.am_machine.specs.State.{State}
+use Rattle.am_machine.specs.EventOutcome.{EventOutcome}
+use Rattle.am_world.specs.{HaveEqualHalves, IsAlike}
+use Rattle.am_world.proofs.BehindLemmas.{outcome_traced, traced}
+use Rattle.am_explore.specs.declared.choice.Choice.{Choice}
+use Rattle.am_explore.specs.declared.question.Question.{Question}
+use Rattle.am_explore.specs.declared.question.Question.TheVariants.{Answered, Waiting}
+use Rattle.am_explore.specs.declared.scene.Scene.{Scene}
+use Rattle.am_explore.specs.Choices.{choices_of}
+use Rattle.am_explore.specs.Findings.{MeetsIn}
+use Rattle.am_explore.specs.Levels.{IsLike}
+use Rattle.am_explore.specs.Orders.{IsEnd, IsIn, IsMade, IsOrder, IsStep, Stand, choices_at, events_in}
+use Rattle.am_explore.specs.Questions.{HasAnswer, HasLeft, Meets}
+use Rattle.am_explore.specs.Standings.{Standing, moved}
+
+-- an event comes to the same, whatever was observed
+no_trace : (s t : State) (event : Event) → HaveEqualHalves s t → IsAlike (outcome_of s event) (outcome_of t event)
+no_trace s t event same_halves =
+    let same : traced t.trace s ≡ t = λ i. record { kernel = same_halves.kernel i; daemon = same_halves.daemon i; trace = t.trace } in
+    let is = outcome_traced t.trace s event in
+    subst (λ (x : State). IsAlike (outcome_of s event) (outcome_of x event)) same (record {
+      answer = sym (ap (λ (o : EventOutcome). o.answer) is);
+      seen = sym (ap (λ (o : EventOutcome). o.seen) is);
+      halves = record {
+        kernel = sym (ap (λ (o : EventOutcome). o.state.kernel) is);
+        daemon = sym (ap (λ (o : EventOutcome). o.state.daemon) is);
+      };
+    })
+
+pub like_back : (a b : Stand) → IsLike a b → IsLike b a
+like_back a b like = record {
+  halves = record { kernel = sym like.halves.kernel; daemon = sym like.halves.daemon };
+  threads = sym like.threads;
+}
+
+-- ---- steps from stands that are alike
+
+like_choices : (scene : Scene) (a b : Stand) → IsLike a b → choices_at scene a ≡ choices_at scene b
+like_choices scene a b like = λ i. choices_of scene (like.halves.kernel i) (like.halves.daemon i) (like.threads i)
+
+like_made : (scene : Scene) (a c : Stand) (choice : Choice) (answer : Answer) (b : Stand) → IsLike a c → IsMade scene a choice answer b → (d : Stand) × IsMade scene c choice answer d × IsLike b d
+like_made scene a c choice answer b like made =
+    let o : EventOutcome = outcome_of c.state choice.event in
+    let alike : IsAlike (outcome_of a.state choice.event) o = no_trace a.state c.state choice.event like.halves in
+    let threads : List Standing = moved 0 choice.who answer scene.threads.items c.threads in
+    (
+      record { state = after c.state o; threads = threads },
+      record {
+        seen = o.seen;
+        comes = record { told = made.comes.told ∙ alike.answer; shown = refl; left = refl };
+        counts = made.counts;
+        goes_on = refl;
+      },
+      record {
+        halves = record {
+          kernel = ap (λ (s : State). s.kernel) made.comes.left ∙ alike.halves.kernel;
+          daemon = ap (λ (s : State). s.daemon) made.comes.left ∙ alike.halves.daemon;
+        };
+        threads = made.goes_on ∙ ap (λ (z : List Standing). moved 0 choice.who answer scene.threads.items z) like.threads;
+      },
+    )
+
+like_step : (scene : Scene) (a c : Stand) (choice : Choice) (answer : Answer) (b : Stand) → IsLike a c → IsStep scene a choice answer b → (d : Stand) × IsStep scene c choice answer d × IsLike b d
+like_step scene a c choice answer b like step =
+    let came = like_made scene a c choice answer b like step.made in
+    (
+      came.0,
+      record { chosen = subst (λ (z : List Choice). IsIn choice z) (like_choices scene a c like) step.chosen; made = came.1 },
+      came.2,
+    )
+
+like_order : (scene : Scene) (a c : Stand) (choices : List Choice) (answers : List Answer) (b : Stand) → IsLike a c → IsOrder scene a choices answers b → (d : Stand) × IsOrder scene c choices answers d × IsLike b d
+like_order scene a c [] [] b like leads = (c, refl, subst (λ (z : Stand). IsLike z c) (sym leads) like)
+like_order scene a c (choice ∷ choices) (answer ∷ answers) b like leads =
+    let one = like_step scene a c choice answer leads.0 like leads.1 in
+    let rest = like_order scene leads.0 one.0 choices answers b one.2 leads.2 in
+    (rest.0, (one.0, one.1, rest.1), rest.2)
+like_order scene a c [] (answer ∷ answers) b like leads = elim leads [ ]
+like_order scene a c (choice ∷ choices) [] b like leads = elim leads [ ]
+
+like_end : (scene : Scene) (a c : Stand) → IsLike a c → IsEnd scene a → IsEnd scene c
+like_end scene a c like ends choice answer b step =
+    let back = like_step scene c a choice answer b (like_back a c like) step in
+    ends choice answer back.0 back.1
+
+like_meets : (scene : Scene) (question : Question) (a c : Stand) → IsLike a c → Meets scene question a → Meets scene question c
+like_meets scene (Answered thread event sought) a c like meets =
+    subst (λ (z : List Standing). IsSomeAnd (slice_get z thread) (λ (s : Standing). HasAnswer event sought s.heard)) like.threads meets
+like_meets scene (Waiting thread) a c like meets =
+    subst (λ (z : List Standing). IsSomeAnd (slice_get z thread) (λ (s : Standing). IsSomeAnd (slice_get scene.threads.items thread) (λ (events : List Event). HasLeft events s))) like.threads meets
+
+-- an order that meets the question is one from each stand that is alike
+pub like_meets_in : (scene : Scene) (question : Question) (a c : Stand) (steps : ℕ) → IsLike a c → MeetsIn scene question a steps → MeetsIn scene question c steps
+like_meets_in scene question a c steps like m =
+    let came = like_order scene a c m.choices m.answers m.end like m.leads in
+    record {
+      choices = m.choices;
+      answers = m.answers;
+      end = came.0;
+      leads = came.1;
+      ends = like_end scene m.end came.0 came.2 m.ends;
+      meets = like_meets scene question m.end came.0 came.2 m.meets;
+      long = m.long;
+    }
+
+-- ---- orders go on
+
+pub order_more : (scene : Scene) (a : Stand) (choices : List Choice) (answers : List Answer) (mid : Stand) (choice : Choice) (answer : Answer) (b : Stand) → IsOrder scene a choices answers mid → IsStep scene mid choice answer b →
+    IsOrder scene a (choices ++ choice ∷ []) (answers ++ answer ∷ []) b
+order_more scene a [] [] mid choice answer b leads step = (b, subst (λ (z : Stand). IsStep scene z choice answer b) leads step, refl)
+order_more scene a (c ∷ choices) (x ∷ answers) mid choice answer b leads step = (leads.0, leads.1, order_more scene leads.0 choices answers mid choice answer b leads.2 step)
+order_more scene a [] (x ∷ answers) mid choice answer b leads step = elim leads [ ]
+order_more scene a (c ∷ choices) [] mid choice answer b leads step = elim leads [ ]
+
+-- an order is a run of the machine
+pub order_runs : (scene : Scene) (a : Stand) (choices : List Choice) (answers : List Answer) (b : Stand) → IsOrder scene a choices answers b → Run a.state (events_in choices) answers b.state
+order_runs scene a [] [] b leads = ap (λ (z : Stand). z.state) leads
+order_runs scene a (choice ∷ choices) (answer ∷ answers) b leads = (leads.0.state, leads.1.made.seen, inr leads.1.made.comes, order_runs scene leads.0 choices answers b leads.2)
+order_runs scene a [] (answer ∷ answers) b leads = elim leads [ ]
+order_runs scene a (choice ∷ choices) [] b leads = elim leads [ ]

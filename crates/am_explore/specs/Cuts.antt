@@ -1,0 +1,14 @@
+-- A search in parts: own choice (docs/DECISIONS.md, "All orders of a scene").
+use Rattle.std.specs.Prelude.{◌≡◌, ◌↔◌, List, ◌++◌, length}
+use Rattle.am_machine.specs.{Answer}
+use Rattle.am_explore.specs.declared.choice.Choice.{Choice}
+use Rattle.am_explore.specs.declared.scene.Scene.{Scene}
+use Rattle.am_explore.specs.Orders.{IsOrder, Stand}
+
+-- An order is an order of its first choices, and one from where these lead. So the orders from all
+-- stands that as many choices lead to are all orders that are as long or longer.
+abbrev pub AreCut : Type 0
+AreCut =
+    (scene : Scene) (start : Stand) (first later : List Choice) (told next : List Answer) (end : Stand) → length first ≡ length told →
+    IsOrder scene start (first ++ later) (told ++ next) end
+    ↔ ((mid : Stand) × IsOrder scene start first told mid × IsOrder scene mid later next end)
