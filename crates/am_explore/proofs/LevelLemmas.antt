@@ -1,5 +1,5 @@
 -- Levels: what comes of their nodes is the next level.
-use Rattle.std.proofs.Common.{◌≡◌, ◌≤◌, ◌<◌, ◌+◌, ℕ, zero, suc, List, [], ◌∷◌, ◌++◌, length, get_or, refl, sym, ap, subst, ◌∙◌, inl, inr, arith}
+use Rattle.std.proofs.Common.{◌≡◌, ◌≤◌, ◌<◌, ◌+◌, ℕ, zero, suc, List, [], ◌∷◌, ◌++◌, length, get_or, take, refl, sym, ap, subst, ◌∙◌, inl, inr, arith}
 use Rattle.std.proofs.lemmas.List.{length_push}
 use Rattle.am_machine.specs.{Answer}
 use Rattle.am_explore.specs.declared.choice.Choice.{Choice}
@@ -7,12 +7,13 @@ use Rattle.am_explore.specs.declared.level.Node.{Node}
 use Rattle.am_explore.specs.declared.question.Question.{Question}
 use Rattle.am_explore.specs.declared.scene.Scene.{Scene}
 use Rattle.am_explore.specs.declared.search.Found.{Found}
-use Rattle.am_explore.specs.declared.search.Found.TheVariants.{Order, Never, Cut}
+use Rattle.am_explore.specs.declared.search.Found.TheVariants as founds
+use Rattle.am_explore.specs.declared.search.Ahead.{Ahead}
 use Rattle.am_explore.specs.Findings.{IsFound, MeetsFirst, MeetsIn, NoneMeets}
-use Rattle.am_explore.specs.Levels.{AllOf, AreNodesAhead, Grows, HasLike, IsLevel, IsLike, IsNodeAt, IsOrderTo, IsPassed, OneMeetsIn, node_stand}
+use Rattle.am_explore.specs.Levels.{AllOf, AreNodesAhead, Counts, Grows, HasLike, IsLevel, IsLike, IsNodeAt, IsOrderTo, IsPassed, OneMeetsIn, node_stand}
 use Rattle.am_explore.specs.Orders.{IsEnd, IsOrder, IsStep, Stand}
 use Rattle.am_explore.specs.Questions.{Meets}
-use Rattle.am_explore.proofs.ListLemmas.{AllOf_at, AllOf_push}
+use Rattle.am_explore.proofs.ListLemmas.{AllOf_at, AllOf_more, AllOf_push, AllOf_weaker}
 use Rattle.am_explore.proofs.OrderLemmas.{like_back, like_meets_in, order_more, order_runs}
 
 -- ---- one of the nodes is alike
@@ -88,6 +89,25 @@ pass_all scene question next [] left passed one = elim one [ ]
 pass_all scene question next (node ∷ level) left passed (inl m) = pass_by scene question next node passed.0 m.choices m.answers m.end left m.leads m.ends m.meets m.long
 pass_all scene question next (node ∷ level) left passed (inr one) = pass_all scene question next level left passed.1 one
 
+-- one node more was passed
+pub pass_more : (scene : Scene) (question : Question) (level old next : List Node) (i : ℕ) (node : Node) → i < length level → node ≡ get_or level i node → Grows scene node old next → IsPassed scene question next node →
+    AllOf (IsPassed scene question old) (take i level) → AllOf (IsPassed scene question next) (take (i + 1) level)
+pass_more scene question level old next i node h is grows passed all =
+    AllOf_more (IsPassed scene question next) level i node h is
+    (AllOf_weaker (IsPassed scene question old) (IsPassed scene question next) (take i level)
+    (λ n before. record { follows = λ choice answer b step. grows.likes b (before.follows choice answer b step); unmet = before.unmet }) all) passed
+
+pub ahead_more : (scene : Scene) (level old next : List Node) (i : ℕ) (node : Node) → i < length level → node ≡ get_or level i node → Grows scene node old next → AreNodesAhead scene level old → AreNodesAhead scene level next
+ahead_more scene level old next i node h is grows ahead start depth at =
+    grows.orders start depth (AllOf_at (IsNodeAt scene start depth) level i node h is at) (ahead start depth at)
+
+pub counts_then : (old mid new : Ahead) → Counts old mid → Counts mid new → Counts old new
+counts_then old mid new first later = record {
+  most = later.most ∙ first.most;
+  states = omega (arith, first.states, later.states);
+  bound = later.bound;
+}
+
 pub next_level : (scene : Scene) (question : Question) (start : Stand) (level next : List Node) → AreNodesAhead scene level next → AllOf (IsPassed scene question next) level → IsLevel scene question start level → IsLevel scene question start next
 next_level scene question start level next ahead passed l = record {
   depth = suc l.depth;
@@ -135,11 +155,11 @@ first_found scene question start level i node h is ends meets l =
 
 pub order_found : (scene : Scene) (question : Question) (start : Stand) (level : List Node) (i : ℕ) (node : Node) (found : Found) → i < length level → node ≡ get_or level i node →
     IsEnd scene (node_stand node) → Meets scene question (node_stand node) → IsOrderTo node found → IsLevel scene question start level → IsFound scene question start found
-order_found scene question start level i node (Order choices answers) h is ends meets to l =
+order_found scene question start level i node (founds.Order choices answers) h is ends meets to l =
     subst (λ (z : List Choice). MeetsFirst scene question start z answers.items) (sym to.0)
     (subst (λ (z : List Answer). MeetsFirst scene question start node.choices.items z) (sym to.1) (first_found scene question start level i node h is ends meets l))
-order_found scene question start level i node Never h is ends meets to l = elim to [ ]
-order_found scene question start level i node Cut h is ends meets to l = elim to [ ]
+order_found scene question start level i node founds.Never h is ends meets to l = elim to [ ]
+order_found scene question start level i node founds.Cut h is ends meets to l = elim to [ ]
 
 pub none_found : (scene : Scene) (question : Question) (start : Stand) → IsLevel scene question start [] → NoneMeets scene question start
 none_found scene question start l steps m = (l.through steps m).2

@@ -1,7 +1,8 @@
 -- Lists that grow by what is left of others.
-use Rattle.std.proofs.Common.{◌≡◌, ◌⊎◌, ℕ, zero, suc, ◌+◌, ◌<◌, ◌≤◌, Bool, List, [], ◌∷◌, ◌++◌, length, get_or, drop, take, refl, sym, ap, subst, ◌∙◌, inl, inr, arith}
+use Rattle.std.proofs.Common.{◌≡◌, ◌⊎◌, ℕ, zero, suc, ◌+◌, ◌<◌, ◌≤◌, min, Bool, List, [], ◌∷◌, ◌++◌, length, get_or, drop, take, refl, sym, ap, subst, ◌∙◌, inl, inr, arith}
 use Rattle.std.specs.Prelude.{map, if◌then◌else◌}
 use Rattle.std.proofs.lemmas.List.{append_assoc, append-nil, drop_more, drop_all, take_more}
+use Rattle.std.proofs.lemmas.Bool.{cases_lt}
 use Rattle.am_machine.specs.{Answer, Event}
 use Rattle.am_explore.specs.declared.choice.Choice.{Choice}
 use Rattle.am_explore.specs.declared.choice.Who.{Who}
@@ -23,6 +24,9 @@ pub all_given : {A B : Type 0} (G : List A → List B) → G [] ≡ [] → (done
 all_given {A} {B} G none done xs i h = ap (λ (z : List A). done ++ G z) (drop_all i xs h) ∙ ap (λ (z : List B). done ++ z) none ∙ append-nil done
 
 -- ---- two lists side by side
+
+pub one_ended : (a b n : ℕ) → min a b ≤ n → (a ≤ n) ⊎ (b ≤ n)
+one_ended a b n h = elim (cases_lt n a) [ inl more ↦ inr (omega arith) | inr ended ↦ inl ended ]
 
 pub threads_more : (done : List Choice) (threads : List (List Event)) (standings : List Standing) (n : ℕ) (events : List Event) (s : Standing) → n < length threads → n < length standings →
     events ≡ get_or threads n events → s ≡ get_or standings n s →

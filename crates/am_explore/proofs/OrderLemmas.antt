@@ -1,8 +1,10 @@
 -- Orders: they go on step by step, and don't rest on what was observed.
-use Rattle.std.proofs.Common.{◌≡◌, List, [], ◌∷◌, ◌++◌, refl, sym, ap, subst, ◌∙◌, inl, inr}
+use Rattle.std.proofs.Common.{◌≡◌, false, List, [], ◌∷◌, ◌++◌, length, refl, sym, ap, subst, ◌∙◌, inl, inr, arith}
 use Rattle.std.specs.Prelude.{ℕ, slice_get}
 use Rattle.std.specs.Option.{IsSomeAnd}
-use Rattle.am_machine.specs.{Answer, Event, Run, after, outcome_of}
+use Rattle.std.proofs.lemmas.Bool.{false≢true}
+use Rattle.am_state.specs.{Obs}
+use Rattle.am_machine.specs.{Answer, Comes, Event, Run, Step, after, outcome_of}
 use Rattle.am_machine.specs.State.{State}
 use Rattle.am_machine.specs.EventOutcome.{EventOutcome}
 use Rattle.am_world.specs.{HaveEqualHalves, IsAlike}
@@ -11,6 +13,7 @@ use Rattle.am_explore.specs.declared.choice.Choice.{Choice}
 use Rattle.am_explore.specs.declared.question.Question.{Question}
 use Rattle.am_explore.specs.declared.question.Question.TheVariants.{Answered, Waiting}
 use Rattle.am_explore.specs.declared.scene.Scene.{Scene}
+use Rattle.am_explore.specs.Answers.{is_no_memory, is_step}
 use Rattle.am_explore.specs.Choices.{choices_of}
 use Rattle.am_explore.specs.Findings.{MeetsIn}
 use Rattle.am_explore.specs.Levels.{IsLike}
@@ -37,6 +40,37 @@ like_back a b like = record {
   halves = record { kernel = sym like.halves.kernel; daemon = sym like.halves.daemon };
   threads = sym like.threads;
 }
+
+pub like_same : (a b : Stand) → a ≡ b → IsLike a b
+like_same a b is = record {
+  halves = record { kernel = ap (λ (z : Stand). z.state.kernel) is; daemon = ap (λ (z : Stand). z.state.daemon) is };
+  threads = ap (λ (z : Stand). z.threads) is;
+}
+
+-- ---- what comes of a choice
+
+-- memory hasn't run out, so that the event has come
+pub comes_of : (old : State) (event : Event) (answer : Answer) (seen : List Obs) (new : State) → is_no_memory answer ≡ false → Step old event answer seen new → Comes (outcome_of old event) old answer seen new
+comes_of old event answer seen new lasts step = elim step [
+  | inl ran ↦ absurd (false≢true (sym lasts ∙ ap is_no_memory ran.told))
+  | inr comes ↦ comes
+]
+
+-- the answer makes it no step
+pub no_step : (scene : Scene) (a : Stand) (choice : Choice) (answer : Answer) (seen : List Obs) (new : State) → Comes (outcome_of a.state choice.event) a.state answer seen new → is_step choice.who answer ≡ false →
+    (other : Answer) (b : Stand) → IsMade scene a choice other b → ⊥
+no_step scene a choice answer seen new comes none other b made =
+    let same : other ≡ answer = made.comes.told ∙ sym comes.told in
+    false≢true (sym none ∙ sym (ap (is_step choice.who) same) ∙ made.counts)
+
+-- it comes to one thing
+pub same_made : (scene : Scene) (a : Stand) (choice : Choice) (answer other : Answer) (b c : Stand) → IsMade scene a choice answer b → IsMade scene a choice other c → b ≡ c
+same_made scene a choice answer other b c made again =
+    let state : b.state ≡ c.state = made.comes.left ∙ sym again.comes.left in
+    let same : answer ≡ other = made.comes.told ∙ sym again.comes.told in
+    let threads : b.threads ≡ c.threads =
+    made.goes_on ∙ ap (λ (z : Answer). moved 0 choice.who z scene.threads.items a.threads) same ∙ sym again.goes_on in
+    λ i. record { state = state i; threads = threads i }
 
 -- ---- steps from stands that are alike
 
@@ -123,3 +157,20 @@ order_runs scene a [] [] b leads = ap (λ (z : Stand). z.state) leads
 order_runs scene a (choice ∷ choices) (answer ∷ answers) b leads = (leads.0.state, leads.1.made.seen, inr leads.1.made.comes, order_runs scene leads.0 choices answers b leads.2)
 order_runs scene a [] (answer ∷ answers) b leads = elim leads [ ]
 order_runs scene a (choice ∷ choices) [] b leads = elim leads [ ]
+
+-- ---- an order in two parts
+
+pub order_cut : (scene : Scene) (a : Stand) (first later : List Choice) (told next : List Answer) (end : Stand) → length first ≡ length told → IsOrder scene a (first ++ later) (told ++ next) end →
+    (mid : Stand) × IsOrder scene a first told mid × IsOrder scene mid later next end
+order_cut scene a [] later [] next end long leads = (a, refl, leads)
+order_cut scene a (choice ∷ first) later (answer ∷ told) next end long leads =
+    let rest = order_cut scene leads.0 first later told next end (omega arith) leads.2 in
+    (rest.0, (leads.0, leads.1, rest.1), rest.2)
+order_cut scene a [] later (answer ∷ told) next end long leads = absurd (omega arith)
+order_cut scene a (choice ∷ first) later [] next end long leads = absurd (omega arith)
+
+pub orders_joined : (scene : Scene) (a : Stand) (first later : List Choice) (told next : List Answer) (end mid : Stand) → IsOrder scene a first told mid → IsOrder scene mid later next end → IsOrder scene a (first ++ later) (told ++ next) end
+orders_joined scene a [] later [] next end mid leads on = subst (λ (z : Stand). IsOrder scene z later next end) leads on
+orders_joined scene a (choice ∷ first) later (answer ∷ told) next end mid leads on = (leads.0, leads.1, orders_joined scene leads.0 first later told next end mid leads.2 on)
+orders_joined scene a [] later (answer ∷ told) next end mid leads on = elim leads [ ]
+orders_joined scene a (choice ∷ first) later [] next end mid leads on = elim leads [ ]

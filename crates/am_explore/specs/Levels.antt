@@ -90,7 +90,7 @@ LeadsTo scene a nodes choice = (answer : Answer) (b : Stand) → IsMade scene a 
 -- what was seen of one choice
 abbrev pub IsVisited : Scene → Stand → Choice → Ahead → Visited → Type 0
 IsVisited scene a choice ahead visits.NoStep = IsNoStep scene a choice
-IsVisited scene a choice ahead visits.Reached = LeadsTo scene a ahead.next.nodes.items choice
+IsVisited scene a choice ahead visits.Reached = LeadsTo scene a ahead.next.nodes.items choice × (IsEnd scene a → ⊥)
 IsVisited scene a choice ahead visits.Full = IsUsedUp ahead
 
 -- each step from here leads to a node
@@ -100,7 +100,7 @@ Follows scene a nodes = (choice : Choice) (answer : Answer) (b : Stand) → IsSt
 -- what was seen of all choices
 abbrev pub IsLooked : Scene → Stand → Ahead → Looked → Type 0
 IsLooked scene a ahead looks.End = IsEnd scene a
-IsLooked scene a ahead looks.GoesOn = Follows scene a ahead.next.nodes.items
+IsLooked scene a ahead looks.GoesOn = Follows scene a ahead.next.nodes.items × (IsEnd scene a → ⊥)
 IsLooked scene a ahead looks.Cut = IsUsedUp ahead
 
 -- as many states were met as the next level has grown by, and no more than may be

@@ -137,7 +137,11 @@ fn look(
             Visited::Full => return Ok(Looked::Cut),
         }
     }
-    Ok(if is_end { Looked::End } else { Looked::GoesOn })
+    if is_end {
+        ahead.tally.count_end(orders);
+        return Ok(Looked::End);
+    }
+    Ok(Looked::GoesOn)
 }
 
 /// The order that leads to a state.
@@ -176,7 +180,6 @@ fn turn(
             Looked::Cut => return Ok(Some(Found::Cut)),
             Looked::GoesOn => {}
             Looked::End => {
-                ahead.tally.count_end(orders);
                 if node.begun.meets(scene, question) {
                     return Ok(Some(order_to(alloc, node)?));
                 }

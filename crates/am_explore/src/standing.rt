@@ -1,6 +1,6 @@
 //! Where the threads of a scene stand.
 
-ghost use Rattle.std.specs.Prelude.{◌≡◌, ◌+◌, ◌<◌, ◌^◌, ◌↔◌, IsTrue, IfOk, length, drop};
+ghost use Rattle.std.specs.Prelude.{◌≡◌, ◌↔◌, IsTrue, IfOk, drop};
 ghost use Rattle.am_explore.specs.Standings.{next_after, first_of, went, moved, first_standings};
 ghost use Rattle.am_explore.specs.Questions.{HasAnswer};
 
@@ -8,7 +8,7 @@ use crate::answers::{copy_answer, is_resume, is_wait, resumes};
 use crate::choice::Who;
 use crate::question::Sought;
 use crate::scene::Thread;
-use am_machine::{Answer, Event};
+use am_machine::Answer;
 use std::alloc::{AllocError, Global};
 use std::marker::Model;
 
@@ -87,12 +87,12 @@ fn has_answer(event: usize, sought: &Sought, heard: &[Heard]) -> bool
     false
 }
 
-/// The index of the next event behind one of these, the first of which is answered so.
-fn next_after(next: usize, events: &[Event], answer: &Answer) -> usize
-    requires { next + length events.now < 2 ^ 64 }
-    ensures { result ≡ next_after next events.now answer.now }
+/// The index of the event that a thread makes behind the one at this index, which is answered so.
+fn next_after(next: usize, thread: &Thread, answer: &Answer) -> usize
+    ensures { result ≡ next_after next (drop next thread.now) answer.now }
 {
-    let [event, later @ ..] = events else {
+    let _count = thread.all().len();
+    let [event, later @ ..] = thread.from(next) else {
         return next;
     };
     if !is_wait(answer) {
@@ -160,7 +160,7 @@ impl Progress {
             answer: copy_answer(alloc, answer)?,
         })?;
         Ok(Progress {
-            next: next_after(self.next, thread.from(self.next), answer),
+            next: next_after(self.next, thread, answer),
             heard,
         })
     }

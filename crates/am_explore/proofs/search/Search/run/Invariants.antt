@@ -2,13 +2,13 @@ use Rattle.std.proofs.Common.{◌≡◌, ◌≤◌, ◌-◌, []}
 use Rattle.am_explore.specs.Levels.{IsSameSearch}
 use Rattle.am_explore.proofs.search.Search.run.Given as goal
 
-abbrev pub invariant-loop : goal.invariant-loop
-invariant-loop l = record {
+abbrev pub invariant-loop-found : goal.invariant-loop-found
+invariant-loop-found l = record {
   same : IsSameSearch l.scene l.question l.fn.self.level.nodes.items l.self.level.nodes.items;
   bound : l.self.ahead.tally.states ≤ l.self.ahead.most;
   empty : l.self.ahead.next.nodes.items ≡ [];
   most : l.self.ahead.most ≡ l.fn.self.ahead.most;
 }
 
-abbrev pub decreases-loop : goal.decreases-loop
-decreases-loop l = l.self.ahead.most - l.self.ahead.tally.states
+abbrev pub decreases-loop-found : goal.decreases-loop-found
+decreases-loop-found l = l.self.ahead.most - l.self.ahead.tally.states
