@@ -239,7 +239,7 @@ impl Begun {
     pub fn threads(&self) -> &[Progress]
         ensures { result.now ≡ (stand_of self.now).threads }
     {
-        self.threads.as_slice()
+        &self.threads
     }
 
     /// Whether both stand alike, whatever was observed.

@@ -123,7 +123,7 @@ impl Progress {
     pub fn heard(&self) -> &[Heard]
         ensures { result.now ≡ self.now.heard }
     {
-        self.heard.as_slice()
+        &self.heard
     }
 
     /// The same once more.

@@ -131,10 +131,10 @@ fn cut_at(alloc: Global, staged: &Staged, most: u64) -> Result<Option<Tally>, Er
 fn a_search_is_cut_behind_so_many_states(rt: HostRuntime) -> Result<(), Fail> {
     let staged = scenes::two_namespaces(rt.alloc())?;
     let none = cut_at(rt.alloc(), &staged, 0)?.map(|tally| tally.states);
-    let cut = cut_at(rt.alloc(), &staged, 53)?.map(|tally| tally.states);
-    let whole = cut_at(rt.alloc(), &staged, 54)?.map(|tally| tally.states);
+    let cut = cut_at(rt.alloc(), &staged, 58)?.map(|tally| tally.states);
+    let whole = cut_at(rt.alloc(), &staged, 59)?.map(|tally| tally.states);
     assert_eq!(rt; none, Some(0));
-    assert_eq!(rt; cut, Some(53));
+    assert_eq!(rt; cut, Some(58));
     assert_eq!(rt; whole, None);
     Ok(())
 }
