@@ -15,7 +15,7 @@ use Rattle.am_explore.specs.declared.question.Question.TheVariants.{Answered, Wa
 use Rattle.am_explore.specs.declared.scene.Scene.{Scene}
 use Rattle.am_explore.specs.Answers.{is_no_memory, is_step}
 use Rattle.am_explore.specs.Choices.{choices_of}
-use Rattle.am_explore.specs.Findings.{MeetsIn}
+use Rattle.am_explore.specs.Findings.{MeetsIn, NoneMeets}
 use Rattle.am_explore.specs.Levels.{IsLike}
 use Rattle.am_explore.specs.Orders.{IsEnd, IsIn, IsMade, IsOrder, IsStep, Stand, choices_at, events_in}
 use Rattle.am_explore.specs.Questions.{HasAnswer, HasLeft, Meets}
@@ -174,3 +174,14 @@ orders_joined scene a [] later [] next end mid leads on = subst (λ (z : Stand).
 orders_joined scene a (choice ∷ first) later (answer ∷ told) next end mid leads on = (leads.0, leads.1, orders_joined scene leads.0 first later told next end mid leads.2 on)
 orders_joined scene a [] later (answer ∷ told) next end mid leads on = elim leads [ ]
 orders_joined scene a (choice ∷ first) later [] next end mid leads on = elim leads [ ]
+
+-- no order meets the question, as none does behind a first step
+pub never_by_parts : (scene : Scene) (question : Question) (start : Stand) → (IsEnd scene start → Meets scene question start → ⊥) →
+    ((choice : Choice) (answer : Answer) (mid : Stand) → IsStep scene start choice answer mid → NoneMeets scene question mid) →
+    (choices : List Choice) (answers : List Answer) (end : Stand) → IsOrder scene start choices answers end → IsEnd scene end → Meets scene question end → ⊥
+never_by_parts scene question start here behind [] [] end leads ends meets =
+    here (subst (λ (z : Stand). IsEnd scene z) leads ends) (subst (λ (z : Stand). Meets scene question z) leads meets)
+never_by_parts scene question start here behind (choice ∷ choices) (answer ∷ answers) end leads ends meets =
+    behind choice answer leads.0 leads.1 (length choices) (record { choices = choices; answers = answers; end = end; leads = leads.2; ends = ends; meets = meets; long = refl })
+never_by_parts scene question start here behind [] (answer ∷ answers) end leads ends meets = elim leads [ ]
+never_by_parts scene question start here behind (choice ∷ choices) [] end leads ends meets = elim leads [ ]

@@ -3,8 +3,10 @@
 //! mounted where, in sets: where a world tells apart in which order that came, there are more states
 //! here, and as many orders.
 
-use crate::tests::scenes;
-use crate::tests::scenes::Staged;
+use crate::tests::scenes::{
+    ADMINISTRATOR, DEATH, EXPIRY, FAILURES, Plan, THREE_WALKERS, TWO_KEYS, TWO_NAMESPACES, TWO_WALKERS,
+    staged,
+};
 use am_explore::{Question, Tally, explore};
 use am_names::Errno;
 use std::alloc::Global;
@@ -13,16 +15,16 @@ use std::test::Fail;
 /// What no order meets: there is no such thread.
 pub const UNMET: Question = Question::Waiting { thread: 99 };
 
-/// What a search meets that sees all orders.
-fn tally_of(alloc: Global, staged: &Staged) -> Result<Tally, Errno> {
+/// What a search meets that sees all orders of a plan.
+fn tally_of(alloc: Global, plan: Plan) -> Result<Tally, Errno> {
+    let staged = staged(alloc, plan)?;
     let seen = explore(alloc, &staged.world, &staged.scene, &UNMET, u64::MAX)?;
     Ok(seen.tally)
 }
 
 #[test]
 fn two_namespaces(rt: HostRuntime) -> Result<(), Fail> {
-    let staged = scenes::two_namespaces(rt.alloc())?;
-    let tally = tally_of(rt.alloc(), &staged)?;
+    let tally = tally_of(rt.alloc(), TWO_NAMESPACES)?;
     let all = Tally {
         orders: 67,
         states: 59,
@@ -35,8 +37,7 @@ fn two_namespaces(rt: HostRuntime) -> Result<(), Fail> {
 
 #[test]
 fn expiry(rt: HostRuntime) -> Result<(), Fail> {
-    let staged = scenes::expiry(rt.alloc())?;
-    let tally = tally_of(rt.alloc(), &staged)?;
+    let tally = tally_of(rt.alloc(), EXPIRY)?;
     let all = Tally {
         orders: 65,
         states: 65,
@@ -49,8 +50,7 @@ fn expiry(rt: HostRuntime) -> Result<(), Fail> {
 
 #[test]
 fn two_walkers(rt: HostRuntime) -> Result<(), Fail> {
-    let staged = scenes::two_walkers(rt.alloc())?;
-    let tally = tally_of(rt.alloc(), &staged)?;
+    let tally = tally_of(rt.alloc(), TWO_WALKERS)?;
     let all = Tally {
         orders: 72,
         states: 52,
@@ -63,8 +63,7 @@ fn two_walkers(rt: HostRuntime) -> Result<(), Fail> {
 
 #[test]
 fn three_walkers(rt: HostRuntime) -> Result<(), Fail> {
-    let staged = scenes::three_walkers(rt.alloc())?;
-    let tally = tally_of(rt.alloc(), &staged)?;
+    let tally = tally_of(rt.alloc(), THREE_WALKERS)?;
     let all = Tally {
         orders: 11_070,
         states: 362,
@@ -77,8 +76,7 @@ fn three_walkers(rt: HostRuntime) -> Result<(), Fail> {
 
 #[test]
 fn two_keys(rt: HostRuntime) -> Result<(), Fail> {
-    let staged = scenes::two_keys(rt.alloc())?;
-    let tally = tally_of(rt.alloc(), &staged)?;
+    let tally = tally_of(rt.alloc(), TWO_KEYS)?;
     let all = Tally {
         orders: 5_060_016,
         states: 5_174,
@@ -91,8 +89,7 @@ fn two_keys(rt: HostRuntime) -> Result<(), Fail> {
 
 #[test]
 fn death(rt: HostRuntime) -> Result<(), Fail> {
-    let staged = scenes::death(rt.alloc())?;
-    let tally = tally_of(rt.alloc(), &staged)?;
+    let tally = tally_of(rt.alloc(), DEATH)?;
     let all = Tally {
         orders: 56_054_078,
         states: 31_555,
@@ -105,8 +102,7 @@ fn death(rt: HostRuntime) -> Result<(), Fail> {
 
 #[test]
 fn failures(rt: HostRuntime) -> Result<(), Fail> {
-    let staged = scenes::failures(rt.alloc())?;
-    let tally = tally_of(rt.alloc(), &staged)?;
+    let tally = tally_of(rt.alloc(), FAILURES)?;
     let all = Tally {
         orders: 24_891_299_552,
         states: 6_942,
@@ -119,8 +115,7 @@ fn failures(rt: HostRuntime) -> Result<(), Fail> {
 
 #[test]
 fn administrator(rt: HostRuntime) -> Result<(), Fail> {
-    let staged = scenes::administrator(rt.alloc())?;
-    let tally = tally_of(rt.alloc(), &staged)?;
+    let tally = tally_of(rt.alloc(), ADMINISTRATOR)?;
     let all = Tally {
         orders: 1_711,
         states: 228,

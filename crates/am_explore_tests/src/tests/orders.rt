@@ -1,9 +1,8 @@
 //! What can be in some order, and what can't be in any.
 
 use crate::tests::counts::UNMET;
-use crate::tests::scenes;
-use crate::tests::scenes::Staged;
-use am_explore::{Choice, Found, Question, Seen, Sought, Tally, explore};
+use crate::tests::scenes::{ADMINISTRATOR, EXPIRY, Plan, Staged, TWO_NAMESPACES, staged};
+use am_explore::{Choice, Found, Question, Sought, explore};
 use am_names::Errno;
 use am_world::{Answer, World};
 use std::alloc::Global;
@@ -23,23 +22,26 @@ fn replays(alloc: Global, world: &mut World, choices: &[Choice], answers: &[Answ
     true
 }
 
-/// How many events a shortest order has that meets the question, if one does. It is made once more.
-fn shortest(
-    alloc: Global,
-    staged: &mut Staged,
-    question: &Question,
-) -> Result<Option<usize>, Errno> {
-    let seen = explore(alloc, &staged.world, &staged.scene, question, u64::MAX)?;
-    match seen.found {
+/// How many events what was found has, if it is an order. It is made once more.
+fn events_of(alloc: Global, world: &mut World, found: &Found) -> Result<Option<usize>, Errno> {
+    match found {
         Found::Order { choices, answers } => {
-            if !replays(alloc, &mut staged.world, choices.as_slice(), answers.as_slice()) {
-                return Err(Errno::EINVAL);
+            if replays(alloc, world, choices.as_slice(), answers.as_slice()) {
+                Ok(Some(choices.len()))
+            } else {
+                Err(Errno::EINVAL)
             }
-            Ok(Some(choices.len()))
         }
         Found::Never => Ok(None),
         Found::Cut => Err(Errno::ENOSPC),
     }
+}
+
+/// How many events a shortest order of a plan has that meets the question, if one does.
+fn shortest(alloc: Global, plan: Plan, question: &Question) -> Result<Option<usize>, Errno> {
+    let mut staged = staged(alloc, plan)?;
+    let seen = explore(alloc, &staged.world, &staged.scene, question, u64::MAX)?;
+    events_of(alloc, &mut staged.world, &seen.found)
 }
 
 /// That an event of a thread, both by their indexes, has such an answer.
@@ -53,86 +55,78 @@ fn answered(thread: usize, event: usize, sought: Sought) -> Question {
 
 #[test]
 fn the_expiry_comes_to_its_end_in_some_order(rt: HostRuntime) -> Result<(), Fail> {
-    let mut staged = scenes::expiry(rt.alloc())?;
     let expired = Sought::Exactly {
         answer: Answer::Expired,
     };
-    let events = shortest(rt.alloc(), &mut staged, &answered(1, 1, expired))?;
+    let events = shortest(rt.alloc(), EXPIRY, &answered(1, 1, expired))?;
     assert!(rt; events.is_some());
     Ok(())
 }
 
 #[test]
 fn there_is_nothing_to_expire_in_some_order(rt: HostRuntime) -> Result<(), Fail> {
-    let mut staged = scenes::expiry(rt.alloc())?;
-    let events = shortest(rt.alloc(), &mut staged, &answered(1, 0, Sought::AnyRefused))?;
+    let events = shortest(rt.alloc(), EXPIRY, &answered(1, 0, Sought::AnyRefused))?;
     assert!(rt; events.is_some());
     Ok(())
 }
 
 #[test]
 fn no_order_leaves_the_walker_beside_an_expiry_waiting(rt: HostRuntime) -> Result<(), Fail> {
-    let mut staged = scenes::expiry(rt.alloc())?;
-    let events = shortest(rt.alloc(), &mut staged, &Question::Waiting { thread: 2 })?;
+    let events = shortest(rt.alloc(), EXPIRY, &Question::Waiting { thread: 2 })?;
     assert_eq!(rt; events, None);
     Ok(())
 }
 
 #[test]
 fn the_walker_in_the_copy_arrives_in_some_order(rt: HostRuntime) -> Result<(), Fail> {
-    let mut staged = scenes::two_namespaces(rt.alloc())?;
-    let events = shortest(rt.alloc(), &mut staged, &answered(0, 1, Sought::AnyAt))?;
+    let events = shortest(rt.alloc(), TWO_NAMESPACES, &answered(0, 1, Sought::AnyAt))?;
     assert!(rt; events.is_some());
     Ok(())
 }
 
 #[test]
 fn no_order_refuses_the_first_walker(rt: HostRuntime) -> Result<(), Fail> {
-    let mut staged = scenes::two_namespaces(rt.alloc())?;
-    let events = shortest(rt.alloc(), &mut staged, &answered(1, 0, Sought::AnyRefused))?;
+    let events = shortest(rt.alloc(), TWO_NAMESPACES, &answered(1, 0, Sought::AnyRefused))?;
     assert_eq!(rt; events, None);
     Ok(())
 }
 
 #[test]
 fn no_order_leaves_the_walker_in_the_copy_waiting(rt: HostRuntime) -> Result<(), Fail> {
-    let mut staged = scenes::two_namespaces(rt.alloc())?;
-    let events = shortest(rt.alloc(), &mut staged, &Question::Waiting { thread: 0 })?;
+    let events = shortest(rt.alloc(), TWO_NAMESPACES, &Question::Waiting { thread: 0 })?;
     assert_eq!(rt; events, None);
     Ok(())
 }
 
 #[test]
 fn a_death_behind_a_reattachment_leaves_the_walker_waiting(rt: HostRuntime) -> Result<(), Fail> {
-    let mut staged = scenes::administrator(rt.alloc())?;
-    let events = shortest(rt.alloc(), &mut staged, &Question::Waiting { thread: 0 })?;
+    let events = shortest(rt.alloc(), ADMINISTRATOR, &Question::Waiting { thread: 0 })?;
     assert_eq!(rt; events, Some(4));
     Ok(())
 }
 
 #[test]
 fn a_walk_fails_in_some_order(rt: HostRuntime) -> Result<(), Fail> {
-    let mut staged = scenes::administrator(rt.alloc())?;
-    let events = shortest(rt.alloc(), &mut staged, &answered(0, 1, Sought::AnyFailed))?;
+    let events = shortest(rt.alloc(), ADMINISTRATOR, &answered(0, 1, Sought::AnyFailed))?;
     assert!(rt; events.is_some());
     Ok(())
 }
 
-/// What a search meets that looks at so many states, where it was cut.
-fn cut_at(alloc: Global, staged: &Staged, most: u64) -> Result<Option<Tally>, Errno> {
-    let Seen { found, tally } = explore(alloc, &staged.world, &staged.scene, &UNMET, most)?;
-    match found {
-        Found::Cut => Ok(Some(tally)),
+/// How many states a search meets that looks at so many, where it was cut.
+fn cut_at(alloc: Global, staged: &Staged, most: u64) -> Result<Option<u64>, Errno> {
+    let seen = explore(alloc, &staged.world, &staged.scene, &UNMET, most)?;
+    match &seen.found {
+        Found::Cut => Ok(Some(seen.tally.states)),
         Found::Order { .. } | Found::Never => Ok(None),
     }
 }
 
 #[test]
 fn a_search_is_cut_behind_so_many_states(rt: HostRuntime) -> Result<(), Fail> {
-    let staged = scenes::two_namespaces(rt.alloc())?;
-    let none = cut_at(rt.alloc(), &staged, 0)?.map(|tally| tally.states);
-    let cut = cut_at(rt.alloc(), &staged, 58)?.map(|tally| tally.states);
-    let whole = cut_at(rt.alloc(), &staged, 59)?.map(|tally| tally.states);
+    let staged = staged(rt.alloc(), TWO_NAMESPACES)?;
+    let none = cut_at(rt.alloc(), &staged, 0)?;
+    let cut = cut_at(rt.alloc(), &staged, 58)?;
+    let whole = cut_at(rt.alloc(), &staged, 59)?;
     assert_eq!(rt; none, Some(0));
     assert_eq!(rt; cut, Some(58));
     assert_eq!(rt; whole, None);

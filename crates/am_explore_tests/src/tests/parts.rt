@@ -1,7 +1,7 @@
 //! A search in parts: the orders behind each first choice are all orders.
 
 use crate::tests::counts::UNMET;
-use crate::tests::scenes;
+use crate::tests::scenes::{THREE_WALKERS, staged};
 use am_explore::{Begun, Choice, Scene, begin, choices, explore_from, make};
 use am_names::Errno;
 use std::alloc::Global;
@@ -59,20 +59,30 @@ fn orders_by_two(alloc: Global, scene: &Scene, begun: &Begun) -> Result<u64, Err
     Ok(sum)
 }
 
+/// How many the plan of three walkers has, by its first choices.
+fn by_first(alloc: Global) -> Result<u64, Errno> {
+    let staged = staged(alloc, THREE_WALKERS)?;
+    let begun = begin(alloc, &staged.world, &staged.scene)?;
+    orders_by_first(alloc, &staged.scene, &begun)
+}
+
+/// The same by its first two choices.
+fn by_two(alloc: Global) -> Result<u64, Errno> {
+    let staged = staged(alloc, THREE_WALKERS)?;
+    let begun = begin(alloc, &staged.world, &staged.scene)?;
+    orders_by_two(alloc, &staged.scene, &begun)
+}
+
 #[test]
 fn parts_by_the_first_choice_are_the_whole(rt: HostRuntime) -> Result<(), Fail> {
-    let staged = scenes::three_walkers(rt.alloc())?;
-    let begun = begin(rt.alloc(), &staged.world, &staged.scene)?;
-    let sum = orders_by_first(rt.alloc(), &staged.scene, &begun)?;
+    let sum = by_first(rt.alloc())?;
     assert_eq!(rt; sum, 11_070);
     Ok(())
 }
 
 #[test]
 fn parts_by_two_choices_are_the_whole(rt: HostRuntime) -> Result<(), Fail> {
-    let staged = scenes::three_walkers(rt.alloc())?;
-    let begun = begin(rt.alloc(), &staged.world, &staged.scene)?;
-    let sum = orders_by_two(rt.alloc(), &staged.scene, &begun)?;
+    let sum = by_two(rt.alloc())?;
     assert_eq!(rt; sum, 11_070);
     Ok(())
 }
