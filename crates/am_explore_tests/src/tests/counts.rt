@@ -4,8 +4,8 @@
 //! here, and as many orders.
 
 use crate::tests::scenes::{
-    ADMINISTRATOR, DEATH, EXPIRY, FAILURES, Plan, THREE_WALKERS, TWO_KEYS, TWO_NAMESPACES, TWO_WALKERS,
-    staged,
+    ADMINISTRATOR, DEATH, EXPIRY, FAILURES, Plan, THREE_WALKERS, TWO_KEYS, TWO_NAMESPACES,
+    TWO_WALKERS, stage,
 };
 use am_explore::{Question, Tally, explore};
 use am_names::Errno;
@@ -17,7 +17,7 @@ pub const UNMET: Question = Question::Waiting { thread: 99 };
 
 /// What a search meets that sees all orders of a plan.
 fn tally_of(alloc: Global, plan: Plan) -> Result<Tally, Errno> {
-    let staged = staged(alloc, plan)?;
+    let staged = stage(alloc, plan)?;
     let seen = explore(alloc, &staged.world, &staged.scene, &UNMET, u64::MAX)?;
     Ok(seen.tally)
 }

@@ -1,7 +1,7 @@
 //! What can be in some order, and what can't be in any.
 
 use crate::tests::counts::UNMET;
-use crate::tests::scenes::{ADMINISTRATOR, EXPIRY, Plan, Staged, TWO_NAMESPACES, staged};
+use crate::tests::scenes::{ADMINISTRATOR, EXPIRY, Plan, Staged, TWO_NAMESPACES, stage};
 use am_explore::{Choice, Found, Question, Sought, explore};
 use am_names::Errno;
 use am_world::{Answer, World};
@@ -39,7 +39,7 @@ fn events_of(alloc: Global, world: &mut World, found: &Found) -> Result<Option<u
 
 /// How many events a shortest order of a plan has that meets the question, if one does.
 fn shortest(alloc: Global, plan: Plan, question: &Question) -> Result<Option<usize>, Errno> {
-    let mut staged = staged(alloc, plan)?;
+    let mut staged = stage(alloc, plan)?;
     let seen = explore(alloc, &staged.world, &staged.scene, question, u64::MAX)?;
     events_of(alloc, &mut staged.world, &seen.found)
 }
@@ -86,7 +86,11 @@ fn the_walker_in_the_copy_arrives_in_some_order(rt: HostRuntime) -> Result<(), F
 
 #[test]
 fn no_order_refuses_the_first_walker(rt: HostRuntime) -> Result<(), Fail> {
-    let events = shortest(rt.alloc(), TWO_NAMESPACES, &answered(1, 0, Sought::AnyRefused))?;
+    let events = shortest(
+        rt.alloc(),
+        TWO_NAMESPACES,
+        &answered(1, 0, Sought::AnyRefused),
+    )?;
     assert_eq!(rt; events, None);
     Ok(())
 }
@@ -107,7 +111,11 @@ fn a_death_behind_a_reattachment_leaves_the_walker_waiting(rt: HostRuntime) -> R
 
 #[test]
 fn a_walk_fails_in_some_order(rt: HostRuntime) -> Result<(), Fail> {
-    let events = shortest(rt.alloc(), ADMINISTRATOR, &answered(0, 1, Sought::AnyFailed))?;
+    let events = shortest(
+        rt.alloc(),
+        ADMINISTRATOR,
+        &answered(0, 1, Sought::AnyFailed),
+    )?;
     assert!(rt; events.is_some());
     Ok(())
 }
@@ -123,7 +131,7 @@ fn cut_at(alloc: Global, staged: &Staged, most: u64) -> Result<Option<u64>, Errn
 
 #[test]
 fn a_search_is_cut_behind_so_many_states(rt: HostRuntime) -> Result<(), Fail> {
-    let staged = staged(rt.alloc(), TWO_NAMESPACES)?;
+    let staged = stage(rt.alloc(), TWO_NAMESPACES)?;
     let none = cut_at(rt.alloc(), &staged, 0)?;
     let cut = cut_at(rt.alloc(), &staged, 58)?;
     let whole = cut_at(rt.alloc(), &staged, 59)?;

@@ -1,7 +1,7 @@
 //! A search in parts: the orders behind each first choice are all orders.
 
 use crate::tests::counts::UNMET;
-use crate::tests::scenes::{THREE_WALKERS, staged};
+use crate::tests::scenes::{THREE_WALKERS, stage};
 use am_explore::{Begun, Choice, Scene, begin, choices, explore_from, make};
 use am_names::Errno;
 use std::alloc::Global;
@@ -61,14 +61,14 @@ fn orders_by_two(alloc: Global, scene: &Scene, begun: &Begun) -> Result<u64, Err
 
 /// How many the plan of three walkers has, by its first choices.
 fn by_first(alloc: Global) -> Result<u64, Errno> {
-    let staged = staged(alloc, THREE_WALKERS)?;
+    let staged = stage(alloc, THREE_WALKERS)?;
     let begun = begin(alloc, &staged.world, &staged.scene)?;
     orders_by_first(alloc, &staged.scene, &begun)
 }
 
 /// The same by its first two choices.
 fn by_two(alloc: Global) -> Result<u64, Errno> {
-    let staged = staged(alloc, THREE_WALKERS)?;
+    let staged = stage(alloc, THREE_WALKERS)?;
     let begun = begin(alloc, &staged.world, &staged.scene)?;
     orders_by_two(alloc, &staged.scene, &begun)
 }

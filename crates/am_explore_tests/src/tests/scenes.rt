@@ -62,9 +62,13 @@ pub struct Plan {
 const TWO_SHARED: &[Step] = &[ShareRoot, Attach, CopyNamespace];
 
 const WALKER_7: &[Step] = &[Walk(7, 0, Home, 100), Resume(7, 101), Leave(7)];
+
 const WALKER_8: &[Step] = &[Walk(8, 1, Home, 100), Resume(8, 101), Leave(8)];
+
 const WALKER_8_TO_WORK: &[Step] = &[Walk(8, 1, Work, 100), Resume(8, 101), Leave(8)];
+
 const WALKER_9: &[Step] = &[Walk(9, 0, Home, 100), Resume(9, 101), Leave(9)];
+
 const EXPIRER: &[Step] = &[Expire, Resume(20, 201)];
 
 /// The daemon's acts come out well.
@@ -303,7 +307,7 @@ fn scene_of(alloc: Global, plan: Plan) -> Result<Scene, Errno> {
 }
 
 /// The world and the scene of a plan.
-pub fn staged(alloc: Global, plan: Plan) -> Result<Staged, Errno> {
+pub fn stage(alloc: Global, plan: Plan) -> Result<Staged, Errno> {
     let scene = scene_of(alloc, plan)?;
     let world = world_behind(alloc, plan.before)?;
     Ok(Staged { world, scene })
