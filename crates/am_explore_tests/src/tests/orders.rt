@@ -1,12 +1,70 @@
 //! What can be in some order, and what can't be in any.
 
-use crate::tests::counts::UNMET;
-use crate::tests::scenes::{ADMINISTRATOR, EXPIRY, Plan, Staged, TWO_NAMESPACES, stage};
+use crate::tests::scenes::{ADMINISTRATOR, EXPIRY, Plan, TWO_NAMESPACES, stage};
 use am_explore::{Choice, Found, Question, Sought, explore};
 use am_names::Errno;
 use am_world::{Answer, World};
 use std::alloc::Global;
 use std::test::Fail;
+
+/// What is asked of a thread, by its index, and of one of its events, by its own.
+#[derive(Clone, Copy)]
+enum Ask {
+    Expires(usize, usize),
+    Arrives(usize, usize),
+    IsRefused(usize, usize),
+    Fails(usize, usize),
+    Waits(usize),
+}
+
+use Ask::{Arrives, Expires, Fails, IsRefused, Waits};
+
+/// What is told of it.
+#[derive(Clone, Copy)]
+enum Told {
+    Sometimes,
+    Never,
+    /// A shortest order has so many events.
+    Behind(usize),
+}
+
+const ALL: &[(Plan, Ask, Told)] = &[
+    (EXPIRY, Expires(1, 1), Told::Sometimes),
+    (EXPIRY, IsRefused(1, 0), Told::Sometimes),
+    // No order leaves the walker beside an expiry waiting.
+    (EXPIRY, Waits(2), Told::Never),
+    (TWO_NAMESPACES, Arrives(0, 1), Told::Sometimes),
+    (TWO_NAMESPACES, IsRefused(1, 0), Told::Never),
+    (TWO_NAMESPACES, Waits(0), Told::Never),
+    // The daemon dies behind catatonic mode and a reattachment: nobody tells the kernel.
+    (ADMINISTRATOR, Waits(0), Told::Behind(4)),
+    (ADMINISTRATOR, Fails(0, 1), Told::Sometimes),
+];
+
+/// That an event of a thread has such an answer.
+fn answered(thread: usize, event: usize, sought: Sought) -> Question {
+    Question::Answered {
+        thread,
+        event,
+        sought,
+    }
+}
+
+/// That it is answered that an expiry has come to its end.
+fn expires(thread: usize, event: usize) -> Question {
+    let answer = Answer::Expired;
+    answered(thread, event, Sought::Exactly { answer })
+}
+
+fn question(ask: Ask) -> Question {
+    match ask {
+        Expires(thread, event) => expires(thread, event),
+        Arrives(thread, event) => answered(thread, event, Sought::AnyAt),
+        IsRefused(thread, event) => answered(thread, event, Sought::AnyRefused),
+        Fails(thread, event) => answered(thread, event, Sought::AnyFailed),
+        Waits(thread) => Question::Waiting { thread },
+    }
+}
 
 /// Whether the events of an order have these answers, one after another.
 fn replays(alloc: Global, world: &mut World, choices: &[Choice], answers: &[Answer]) -> bool {
@@ -22,121 +80,32 @@ fn replays(alloc: Global, world: &mut World, choices: &[Choice], answers: &[Answ
     true
 }
 
-/// How many events what was found has, if it is an order. It is made once more.
-fn events_of(alloc: Global, world: &mut World, found: &Found) -> Result<Option<usize>, Errno> {
-    match found {
-        Found::Order { choices, answers } => {
-            if replays(alloc, world, choices.as_slice(), answers.as_slice()) {
-                Ok(Some(choices.len()))
-            } else {
-                Err(Errno::EINVAL)
-            }
+/// Whether what was found is what is told. An order that was found is made once more.
+fn is_told(alloc: Global, world: &mut World, found: &Found, told: Told) -> bool {
+    match (found, told) {
+        (Found::Order { choices, answers }, Told::Sometimes) => {
+            replays(alloc, world, choices.as_slice(), answers.as_slice())
         }
-        Found::Never => Ok(None),
-        Found::Cut => Err(Errno::ENOSPC),
+        (Found::Order { choices, answers }, Told::Behind(count)) => {
+            choices.len() == count && replays(alloc, world, choices.as_slice(), answers.as_slice())
+        }
+        (Found::Never, Told::Never) => true,
+        _ => false,
     }
 }
 
-/// How many events a shortest order of a plan has that meets the question, if one does.
-fn shortest(alloc: Global, plan: Plan, question: &Question) -> Result<Option<usize>, Errno> {
+/// Whether that is told of the orders of a plan.
+fn tells(alloc: Global, plan: Plan, ask: Ask, told: Told) -> Result<bool, Errno> {
     let mut staged = stage(alloc, plan)?;
-    let seen = explore(alloc, &staged.world, &staged.scene, question, u64::MAX)?;
-    events_of(alloc, &mut staged.world, &seen.found)
+    let question = question(ask);
+    let seen = explore(alloc, &staged.world, &staged.scene, &question, u64::MAX)?;
+    Ok(is_told(alloc, &mut staged.world, &seen.found, told))
 }
 
-/// That an event of a thread, both by their indexes, has such an answer.
-fn answered(thread: usize, event: usize, sought: Sought) -> Question {
-    Question::Answered {
-        thread,
-        event,
-        sought,
+#[test]
+fn orders_are_found_or_there_are_none(rt: HostRuntime) -> Result<(), Fail> {
+    for (plan, ask, told) in ALL {
+        assert!(rt; tells(rt.alloc(), *plan, *ask, *told)?);
     }
-}
-
-#[test]
-fn the_expiry_comes_to_its_end_in_some_order(rt: HostRuntime) -> Result<(), Fail> {
-    let expired = Sought::Exactly {
-        answer: Answer::Expired,
-    };
-    let events = shortest(rt.alloc(), EXPIRY, &answered(1, 1, expired))?;
-    assert!(rt; events.is_some());
-    Ok(())
-}
-
-#[test]
-fn there_is_nothing_to_expire_in_some_order(rt: HostRuntime) -> Result<(), Fail> {
-    let events = shortest(rt.alloc(), EXPIRY, &answered(1, 0, Sought::AnyRefused))?;
-    assert!(rt; events.is_some());
-    Ok(())
-}
-
-#[test]
-fn no_order_leaves_the_walker_beside_an_expiry_waiting(rt: HostRuntime) -> Result<(), Fail> {
-    let events = shortest(rt.alloc(), EXPIRY, &Question::Waiting { thread: 2 })?;
-    assert_eq!(rt; events, None);
-    Ok(())
-}
-
-#[test]
-fn the_walker_in_the_copy_arrives_in_some_order(rt: HostRuntime) -> Result<(), Fail> {
-    let events = shortest(rt.alloc(), TWO_NAMESPACES, &answered(0, 1, Sought::AnyAt))?;
-    assert!(rt; events.is_some());
-    Ok(())
-}
-
-#[test]
-fn no_order_refuses_the_first_walker(rt: HostRuntime) -> Result<(), Fail> {
-    let events = shortest(
-        rt.alloc(),
-        TWO_NAMESPACES,
-        &answered(1, 0, Sought::AnyRefused),
-    )?;
-    assert_eq!(rt; events, None);
-    Ok(())
-}
-
-#[test]
-fn no_order_leaves_the_walker_in_the_copy_waiting(rt: HostRuntime) -> Result<(), Fail> {
-    let events = shortest(rt.alloc(), TWO_NAMESPACES, &Question::Waiting { thread: 0 })?;
-    assert_eq!(rt; events, None);
-    Ok(())
-}
-
-#[test]
-fn a_death_behind_a_reattachment_leaves_the_walker_waiting(rt: HostRuntime) -> Result<(), Fail> {
-    let events = shortest(rt.alloc(), ADMINISTRATOR, &Question::Waiting { thread: 0 })?;
-    assert_eq!(rt; events, Some(4));
-    Ok(())
-}
-
-#[test]
-fn a_walk_fails_in_some_order(rt: HostRuntime) -> Result<(), Fail> {
-    let events = shortest(
-        rt.alloc(),
-        ADMINISTRATOR,
-        &answered(0, 1, Sought::AnyFailed),
-    )?;
-    assert!(rt; events.is_some());
-    Ok(())
-}
-
-/// How many states a search meets that looks at so many, where it was cut.
-fn cut_at(alloc: Global, staged: &Staged, most: u64) -> Result<Option<u64>, Errno> {
-    let seen = explore(alloc, &staged.world, &staged.scene, &UNMET, most)?;
-    match &seen.found {
-        Found::Cut => Ok(Some(seen.tally.states)),
-        Found::Order { .. } | Found::Never => Ok(None),
-    }
-}
-
-#[test]
-fn a_search_is_cut_behind_so_many_states(rt: HostRuntime) -> Result<(), Fail> {
-    let staged = stage(rt.alloc(), TWO_NAMESPACES)?;
-    let none = cut_at(rt.alloc(), &staged, 0)?;
-    let cut = cut_at(rt.alloc(), &staged, 58)?;
-    let whole = cut_at(rt.alloc(), &staged, 59)?;
-    assert_eq!(rt; none, Some(0));
-    assert_eq!(rt; cut, Some(58));
-    assert_eq!(rt; whole, None);
     Ok(())
 }

@@ -74,15 +74,8 @@ fn by_two(alloc: Global) -> Result<u64, Errno> {
 }
 
 #[test]
-fn parts_by_the_first_choice_are_the_whole(rt: HostRuntime) -> Result<(), Fail> {
-    let sum = by_first(rt.alloc())?;
-    assert_eq!(rt; sum, 11_070);
-    Ok(())
-}
-
-#[test]
-fn parts_by_two_choices_are_the_whole(rt: HostRuntime) -> Result<(), Fail> {
-    let sum = by_two(rt.alloc())?;
-    assert_eq!(rt; sum, 11_070);
+fn parts_by_first_choices_are_the_whole(rt: HostRuntime) -> Result<(), Fail> {
+    assert_eq!(rt; by_first(rt.alloc())?, 11_070);
+    assert_eq!(rt; by_two(rt.alloc())?, 11_070);
     Ok(())
 }
