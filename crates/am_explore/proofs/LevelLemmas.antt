@@ -52,14 +52,14 @@ pub grows_by : (scene : Scene) (node : Node) (old new : List Node) (child : Node
 grows_by scene node old new child choice answer step choices answers is = record {
   likes = λ b has. subst (λ (z : List Node). HasLike z b) (sym is) (like_before old child b has);
   orders = λ start depth at all.
-    subst (λ (z : List Node). AllOf (IsNodeAt scene start (suc depth)) z) (sym is)
-    (AllOf_push (IsNodeAt scene start (suc depth)) old child all (record {
-      leads =
-          subst (λ (z : List Choice). IsOrder scene start z child.answers.items (node_stand child)) (sym choices)
-          (subst (λ (z : List Answer). IsOrder scene start (node.choices.items ++ choice ∷ []) z (node_stand child)) (sym answers)
-          (order_more scene start node.choices.items node.answers.items (node_stand node) choice answer (node_stand child) at.leads step));
-      long = ap length choices ∙ (omega (arith, length_push node.choices.items choice, at.long));
-    }));
+      subst (λ (z : List Node). AllOf (IsNodeAt scene start (suc depth)) z) (sym is)
+      (AllOf_push (IsNodeAt scene start (suc depth)) old child all (record {
+        leads =
+            subst (λ (z : List Choice). IsOrder scene start z child.answers.items (node_stand child)) (sym choices)
+            (subst (λ (z : List Answer). IsOrder scene start (node.choices.items ++ choice ∷ []) z (node_stand child)) (sym answers)
+            (order_more scene start node.choices.items node.answers.items (node_stand node) choice answer (node_stand child) at.leads step));
+        long = ap length choices ∙ (omega (arith, length_push node.choices.items choice, at.long));
+      }));
 }
 
 -- ---- orders that meet the question go through the next level
@@ -78,7 +78,7 @@ pass_by scene question next node passed (choice ∷ choices) (answer ∷ answers
   length choices,
   sym long,
   one_ahead scene question next leads.0 (length choices) (passed.follows choice answer leads.0 leads.1)
-  (record { choices = choices; answers = answers; end = end; leads = leads.2; ends = ends; meets = meets; long = refl }),
+      (record { choices = choices; answers = answers; end = end; leads = leads.2; ends = ends; meets = meets; long = refl }),
 )
 pass_by scene question next node passed [] (answer ∷ answers) end left leads ends meets long = elim leads [ ]
 pass_by scene question next node passed (choice ∷ choices) [] end left leads ends meets long = elim leads [ ]
@@ -113,11 +113,11 @@ next_level scene question start level next ahead passed l = record {
   depth = suc l.depth;
   nodes_at = ahead start l.depth l.nodes_at;
   through = λ steps m.
-    let here = l.through steps m in
-    let later = pass_all scene question next level here.0 passed here.2 in
-    let long : steps ≡ l.depth + here.0 = here.1 in
-    let one : here.0 ≡ suc later.0 = later.1 in
-    (later.0, omega arith, later.2);
+      let here = l.through steps m in
+      let later = pass_all scene question next level here.0 passed here.2 in
+      let long : steps ≡ l.depth + here.0 = here.1 in
+      let one : here.0 ≡ suc later.0 = later.1 in
+      (later.0, omega arith, later.2);
 }
 
 pub first_level : (scene : Scene) (question : Question) (start : Stand) (node : Node) → node_stand node ≡ start → node.choices.items ≡ [] → node.answers.items ≡ [] → IsLevel scene question start (node ∷ [])
@@ -147,9 +147,9 @@ first_found scene question start level i node h is ends meets l =
       ends = ends;
       meets = meets;
       first = λ steps m.
-        let long : steps ≡ l.depth + (l.through steps m).0 = (l.through steps m).1 in
-        let depth : length node.choices.items ≡ l.depth = at.long in
-        omega arith;
+          let long : steps ≡ l.depth + (l.through steps m).0 = (l.through steps m).1 in
+          let depth : length node.choices.items ≡ l.depth = at.long in
+          omega arith;
       runs = order_runs scene start node.choices.items node.answers.items (node_stand node) at.leads;
     }
 

@@ -81,8 +81,7 @@ like_made : (scene : Scene) (a c : Stand) (choice : Choice) (answer : Answer) (b
 like_made scene a c choice answer b like made =
     let o : EventOutcome = outcome_of c.state choice.event in
     let alike : IsAlike (outcome_of a.state choice.event) o = no_trace a.state c.state choice.event like.halves in
-    let threads : List Standing = moved 0 choice.who answer scene.threads.items c.threads in
-    (
+    let threads : List Standing = moved 0 choice.who answer scene.threads.items c.threads in (
       record { state = after c.state o; threads = threads },
       record {
         seen = o.seen;
@@ -101,8 +100,7 @@ like_made scene a c choice answer b like made =
 
 like_step : (scene : Scene) (a c : Stand) (choice : Choice) (answer : Answer) (b : Stand) → IsLike a c → IsStep scene a choice answer b → (d : Stand) × IsStep scene c choice answer d × IsLike b d
 like_step scene a c choice answer b like step =
-    let came = like_made scene a c choice answer b like step.made in
-    (
+    let came = like_made scene a c choice answer b like step.made in (
       came.0,
       record { chosen = subst (λ (z : List Choice). IsIn choice z) (like_choices scene a c like) step.chosen; made = came.1 },
       came.2,

@@ -176,7 +176,12 @@ pub fn choices(alloc: Global, scene: &Scene, begun: &Begun) -> Result<Vec<Choice
         (λ choices. choices.items ≡ choices_at scene.now (stand_of begun.now)) }
 {
     let mut choices = Vec::new(alloc);
-    push_threads(alloc, scene.threads.as_slice(), begun.threads.as_slice(), &mut choices)?;
+    push_threads(
+        alloc,
+        scene.threads.as_slice(),
+        begun.threads.as_slice(),
+        &mut choices,
+    )?;
     push_daemon(&scene.daemon, &begun.world, &mut choices)?;
     Ok(choices)
 }
@@ -191,9 +196,9 @@ pub fn make(
 ) -> Result<Option<Made>, AllocError>
     ensures { IfOk result (λ came. MatchOption came
         ((answer : Answer) (b : Stand) →
-            IsMade scene.now (stand_of begun.now) choice.now answer b → ⊥)
+        IsMade scene.now (stand_of begun.now) choice.now answer b → ⊥)
         (λ made. IsMade scene.now (stand_of begun.now) choice.now
-            made.answer (stand_of made.begun))) }
+        made.answer (stand_of made.begun))) }
 {
     let mut world = begun.world.copy(alloc)?;
     let answer = world.answer(alloc, &choice.event);

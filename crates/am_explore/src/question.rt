@@ -40,7 +40,9 @@ pub enum Question {
         sought: Sought,
     },
     /// A thread has events left: at an end it can't go on.
-    Waiting { thread: usize },
+    Waiting {
+        thread: usize,
+    },
 }
 
 /// Whether a walk has arrived.

@@ -108,7 +108,9 @@ fn visit(
     if ahead.tally.states >= ahead.most {
         return Ok(Visited::Full);
     }
-    ahead.next.push(child_of(alloc, node, choice, made)?, orders)?;
+    ahead
+        .next
+        .push(child_of(alloc, node, choice, made)?, orders)?;
     ahead.tally.states += 1;
     Ok(Visited::Reached)
 }
@@ -313,12 +315,15 @@ pub fn explore_from(
 
 /// What is seen where no state is to be looked at.
 fn nothing_seen() -> Seen
-    ensures { result ≡ (record { found = Found.Cut; tally = record {
-      orders = 0;
-      states = 0;
-      ends = 0;
-      steps = 0;
-    } }) }
+    ensures { result ≡ (record {
+      found = Found.Cut;
+      tally = record {
+        orders = 0;
+        states = 0;
+        ends = 0;
+        steps = 0;
+      };
+    }) }
 {
     Seen {
         found: Found::Cut,

@@ -9,13 +9,13 @@ use Rattle.am_explore.proofs.search.turn.Goals.{in-GoesOn, in-End+else-meets}
 
 pub returns-then-meets-clause-found : goal.returns-then-meets-clause-found
 returns-then-meets-clause-found c = λ start l.
-  let level = c.args.level.now.nodes.items in
-  let i = c.loop-index.index in
-  let node = c.node-item.result in
-  let is : node ≡ get_or level i node = subst (λ (z : List Node). node ≡ get_or z i node) c.deref-node-items.ensures.value c.node-item.is in
-  let below : i < length level = subst (λ (z : List Node). i < length z) c.deref-node-items.ensures.value c.loop-index-test.true in
-  order_found c.args.scene.now c.args.question.now start level i node c.in_ok-order_to-in-End.field-0 below is (rw c.in-End.is at c.in_ok-look.ensures.seen) (c.if-meets.ensures.0 refl)
-  c.in_ok-order_to-in-End.ensures l
+    let level = c.args.level.now.nodes.items in
+    let i = c.loop-index.index in
+    let node = c.node-item.result in
+    let is : node ≡ get_or level i node = subst (λ (z : List Node). node ≡ get_or z i node) c.deref-node-items.ensures.value c.node-item.is in
+    let below : i < length level = subst (λ (z : List Node). i < length z) c.deref-node-items.ensures.value c.loop-index-test.true in
+    order_found c.args.scene.now c.args.question.now start level i node c.in_ok-order_to-in-End.field-0 below is (rw c.in-End.is at c.in_ok-look.ensures.seen) (c.if-meets.ensures.0 refl)
+    c.in_ok-order_to-in-End.ensures l
 
 pub loop-index-preserved : goal.loop-index-preserved
 loop-index-preserved c =
@@ -32,14 +32,14 @@ loop-index-preserved c =
     let passed : IsPassed scene question next node =
     elim c.match-branch-2.branch [
       | in-GoesOn w ↦
-        let seen = rw w.in-GoesOn.is at c.in_ok-look.ensures.seen in
-        record { follows = seen.0; unmet = λ ends meets. seen.1 ends }
+          let seen = rw w.in-GoesOn.is at c.in_ok-look.ensures.seen in
+          record { follows = seen.0; unmet = λ ends meets. seen.1 ends }
       | in-End+else-meets w ↦
-        let seen = rw w.in-End.is at c.in_ok-look.ensures.seen in
-        record {
-          follows = λ choice answer b step. absurd (seen choice answer b step);
-          unmet = λ ends meets. false≢true (w.if-meets.ensures.1 meets);
-        }
+          let seen = rw w.in-End.is at c.in_ok-look.ensures.seen in
+          record {
+            follows = λ choice answer b step. absurd (seen choice answer b step);
+            unmet = λ ends meets. false≢true (w.if-meets.ensures.1 meets);
+          }
     ] in
     record {
       orders = ahead_more scene level old next i node below is grows c.loop-index.invariant.orders;
@@ -49,8 +49,8 @@ loop-index-preserved c =
 
 pub returns-clause-goes_on : goal.returns-clause-goes_on
 returns-clause-goes_on c = λ start l.
-  let level = c.args.level.now.nodes.items in
-  let next = c.loop-index.ahead.next.nodes.items in
-  next_level c.args.scene.now c.args.question.now start level next c.loop-index.invariant.orders
-  (subst (λ (z : List Node). AllOf (IsPassed c.args.scene.now c.args.question.now next) z)
-  (take_all c.loop-index.index level (omega (arith, c.deref-node-items.ensures.len, c.args.level.now.nodes.ok.0))) c.loop-index.invariant.passed) l
+    let level = c.args.level.now.nodes.items in
+    let next = c.loop-index.ahead.next.nodes.items in
+    next_level c.args.scene.now c.args.question.now start level next c.loop-index.invariant.orders
+    (subst (λ (z : List Node). AllOf (IsPassed c.args.scene.now c.args.question.now next) z)
+    (take_all c.loop-index.index level (omega (arith, c.deref-node-items.ensures.len, c.args.level.now.nodes.ok.0))) c.loop-index.invariant.passed) l

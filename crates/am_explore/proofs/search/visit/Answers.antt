@@ -10,12 +10,11 @@ use Rattle.am_explore.proofs.search.visit.Goals as goal
 pub returns-then-merges-clause-seen : goal.returns-then-merges-clause-seen
 returns-then-merges-clause-seen c =
     let a = node_stand c.args.node.now in
-    let made = rw c.in-Some.is at c.in_ok-made.ensures in
-    (
+    let made = rw c.in-Some.is at c.in_ok-made.ensures in (
       λ answer b other.
-        subst (λ (z : Stand). HasLike c.merges.new.self.nodes.items z)
-        (same_made c.args.scene.now a c.args.choice.now c.in-Some.made.answer answer (stand_of c.in-Some.made.begun) b made other)
-        (subst (λ (v : Vec Node Global). HasLike v.items (stand_of c.in-Some.made.begun)) (sym c.merges.ensures.nodes) c.if-merges.ensures.like),
+          subst (λ (z : Stand). HasLike c.merges.new.self.nodes.items z)
+          (same_made c.args.scene.now a c.args.choice.now c.in-Some.made.answer answer (stand_of c.in-Some.made.begun) b made other)
+          (subst (λ (v : Vec Node Global). HasLike v.items (stand_of c.in-Some.made.begun)) (sym c.merges.ensures.nodes) c.if-merges.ensures.like),
       λ ends. ends c.args.choice.now c.in-Some.made.answer (stand_of c.in-Some.made.begun) (record { chosen = c.requires.chosen; made = made }),
     )
 
@@ -23,14 +22,13 @@ pub returns-clause-seen : goal.returns-clause-seen
 returns-clause-seen c =
     let a = node_stand c.args.node.now in
     let made = rw c.in-Some.is at c.in_ok-made.ensures in
-    let child = c.in_ok-child_of.field-0 in
-    (
+    let child = c.in_ok-child_of.field-0 in (
       λ answer b other.
-        rw c.in_ok-push.ensures
-        (like_pushed c.merges.new.self.nodes.items child b
-        (like_same (node_stand child) b
-        (ap stand_of c.in_ok-child_of.ensures.begun
-        ∙ same_made c.args.scene.now a c.args.choice.now c.in-Some.made.answer answer (stand_of c.in-Some.made.begun) b made other))),
+          rw c.in_ok-push.ensures
+          (like_pushed c.merges.new.self.nodes.items child b
+          (like_same (node_stand child) b
+          (ap stand_of c.in_ok-child_of.ensures.begun
+          ∙ same_made c.args.scene.now a c.args.choice.now c.in-Some.made.answer answer (stand_of c.in-Some.made.begun) b made other))),
       λ ends. ends c.args.choice.now c.in-Some.made.answer (stand_of c.in-Some.made.begun) (record { chosen = c.requires.chosen; made = made }),
     )
 

@@ -17,19 +17,19 @@ loop-n-preserved c =
     let in_standings : n < length standings = omega arith in
     elim c.if-is_of_thread.branch [
       | then-is_of_thread+in_ok-progress w ↦
-        let events = w.index-threads-n.result in
-        let s = w.index-standings-n.result in
-        let is_one : is_of_thread n who ≡ true = sym c.is_of_thread.ensures ∙ w.if-is_of_thread.true in
-        rw c.in_ok-push.ensures.items
-        (moved_more c.loop-n.all.items threads standings n who answer events s c.if-is_of_thread.progress in_threads in_standings w.index-threads-n.is w.index-standings-n.is
-        (w.progress-is ∙ w.in_ok-progress.ensures ∙ sym (ap (λ (b : Bool). if b then went events answer s else s) is_one)) ∙ c.loop-n.invariant)
+          let events = w.index-threads-n.result in
+          let s = w.index-standings-n.result in
+          let is_one : is_of_thread n who ≡ true = sym c.is_of_thread.ensures ∙ w.if-is_of_thread.true in
+          rw c.in_ok-push.ensures.items
+          (moved_more c.loop-n.all.items threads standings n who answer events s c.if-is_of_thread.progress in_threads in_standings w.index-threads-n.is w.index-standings-n.is
+          (w.progress-is ∙ w.in_ok-progress.ensures ∙ sym (ap (λ (b : Bool). if b then went events answer s else s) is_one)) ∙ c.loop-n.invariant)
       | else-is_of_thread+in_ok-progress-2 w ↦
-        let events = get_or threads n [] in
-        let s = w.index-standings-n-else-is_of_thread.result in
-        let is_none : is_of_thread n who ≡ false = sym c.is_of_thread.ensures ∙ w.if-is_of_thread.false in
-        rw c.in_ok-push.ensures.items
-        (moved_more c.loop-n.all.items threads standings n who answer events s c.if-is_of_thread.progress in_threads in_standings (get_or_default threads n [] events in_threads) w.index-standings-n-else-is_of_thread.is
-        (w.progress-is ∙ w.in_ok-progress-2.ensures ∙ sym (ap (λ (b : Bool). if b then went events answer s else s) is_none)) ∙ c.loop-n.invariant)
+          let events = get_or threads n [] in
+          let s = w.index-standings-n-else-is_of_thread.result in
+          let is_none : is_of_thread n who ≡ false = sym c.is_of_thread.ensures ∙ w.if-is_of_thread.false in
+          rw c.in_ok-push.ensures.items
+          (moved_more c.loop-n.all.items threads standings n who answer events s c.if-is_of_thread.progress in_threads in_standings (get_or_default threads n [] events in_threads) w.index-standings-n-else-is_of_thread.is
+          (w.progress-is ∙ w.in_ok-progress-2.ensures ∙ sym (ap (λ (b : Bool). if b then went events answer s else s) is_none)) ∙ c.loop-n.invariant)
     ]
 
 pub returns : goal.returns
