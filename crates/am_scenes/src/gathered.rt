@@ -167,12 +167,7 @@ impl Gathered {
     }
 
     /// Takes the line of this number.
-    fn take_line(
-        &mut self,
-        alloc: Global,
-        number: u64,
-        line: &[u8],
-    ) -> Result<(), SceneFaultKind>
+    fn take_line(&mut self, alloc: Global, number: u64, line: &[u8]) -> Result<(), SceneFaultKind>
         ensures ok { OnOk result (after_line self.old number line.now ≡ Ok self.new) }
         ensures err { IfErr result (Stops (after_line self.old number line.now)) }
     {
