@@ -59,7 +59,7 @@ fn has_number(
     words: &str,
 ) -> Result<bool, Errno> {
     let fault = SceneFault { line, kind };
-    let told = format!(in alloc; "{fault}")?;
+    let told = fault.to_string(alloc)?;
     Ok(kind.number() == number && told.as_str() == words)
 }
 
