@@ -6,10 +6,10 @@ use Rattle.am_script.specs.{IsOpened, NotOpened, OpenedAs, ScriptFault, ScriptFa
 use Rattle.am_script.specs.Script.{Script, events_in, without_world, Told as ScriptTold}
 use Rattle.am_script.specs.declared.visit.Opened.{Opened}
 use Rattle.am_world.specs.Capacity.{state_of}
-use Rattle.am_scenes.specs.{IsLed, IsScene, NoRoom, NoScene, SceneFault, SceneText, Told, Way, fault_at, fault_of_script, kind_of_script, so_far_of, way_from}
+use Rattle.am_scenes.specs.{IsLed, IsScene, NoRoom, NoScene, SceneFault, Told, fault_at, fault_of_script, kind_of_script, so_far_of, way_from}
 use Rattle.am_scenes.specs.declared.fault.SceneFaultKind.TheVariants.{NoEvents}
 use Rattle.am_scenes.specs.Reading.{Arrives, StopsIn}
-use Rattle.am_scenes.specs.SceneText.{behind_head, no_world, scene_by}
+use Rattle.am_scenes.specs.SceneText.{SceneText, behind_head, no_world, scene_by}
 
 -- ---- behind the head
 

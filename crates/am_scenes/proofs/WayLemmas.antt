@@ -5,10 +5,10 @@ use Rattle.am_machine.specs.State.{State}
 use Rattle.am_script.specs.{LineReadAs, ScriptFaultKind, line_read}
 use Rattle.am_script.specs.declared.fault.ScriptFaultKind.TheVariants as scripts
 use Rattle.am_script.specs.Script.{events_in}
-use Rattle.am_scenes.specs.{IsLed, SceneFault, SceneFaultKind, SceneSoFar, Way, begins_scene, fault_at, kind_of_script, nothing_said, scene_from, way_from}
+use Rattle.am_scenes.specs.{IsLed, SceneFault, SceneFaultKind, SceneSoFar, begins_scene, fault_at, kind_of_script, nothing_said, scene_from, way_from}
 use Rattle.am_scenes.specs.declared.fault.SceneFaultKind.TheVariants as kinds
 use Rattle.am_scenes.specs.Reading.{Arrives, IsMade, LineLeads, LineStops, StopsIn, WayIsLeft}
-use Rattle.am_scenes.specs.Way.{only_scene, way_by}
+use Rattle.am_scenes.specs.Way.{Way, only_scene, way_by}
 use Rattle.am_scenes.proofs.SceneLemmas.{no_room}
 
 -- ---- what leads where

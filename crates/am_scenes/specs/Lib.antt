@@ -16,10 +16,10 @@ pub use Leading.{IsLed, HadMemory}
 pub use QuestionWords.{question_read}
 pub use Reading.{IsScene, NoRoom, NoScene, so_far_of}
 pub use SceneLines.{after_line, scene_from}
-pub use SceneText.{SceneText, scene_of}
+pub use SceneText.{scene_of}
 pub use ServiceWords.{service_read}
 pub use SoFar.{SceneSoFar, Unended, nothing_said}
-pub use Way.{Way, begins_scene, way_from}
+pub use Way.{begins_scene, way_from}
 pub use declared.asked.Asked.{Asked}
 pub use declared.asked.Claim.{Claim}
 pub use declared.fault.SceneFault.{SceneFault}

@@ -85,11 +85,6 @@ pub record NoRoomFrom (before last : ℕ) (fault : SceneFault) : Type 0 where
 abbrev pub StopsIn : ℕ → List (List ℕ) → Result SceneSoFar SceneFault → SceneFault → Type 0
 StopsIn before lines said fault = (said ≡ Err fault) ⊎ NoRoomFrom before (before + length lines) fault
 
--- what is left of the lines when so many were taken goes on as all of them
-pub record IsLeft (all : Option ScriptFaultKind → Result SceneSoFar SceneFault) (last : ℕ) (said : SceneSoFar) (before : ℕ) (lines : List (List ℕ)) : Type 0 where
-  pub same : (broke : Option ScriptFaultKind) → all broke ≡ scene_from broke said before lines
-  pub counted : before + length lines ≡ last
-
 -- what all events of the way lead to, wherever those lead that are left
 pub record WayIsLeft (start : State) (all : Way) (here : State) (left : Way) : Type 0 where
   pub scene : all.scene ≡ left.scene

@@ -1,5 +1,5 @@
 -- What the fields of a scene that is being read stand for.
-use Rattle.std.specs.Prelude.{List, Option, Vec}
+use Rattle.std.specs.Prelude.{List, Option, None, Some, Vec}
 use Rattle.std.specs.Option.{option_map}
 use Rattle.am_names.specs.declared.fail_no.FailNo.{FailNo}
 use Rattle.am_explore.specs.declared.scene.Service.{Service}
@@ -22,4 +22,5 @@ view_of g = record {
 
 -- the items of a list, if there is one
 abbrev pub items_in : {A Z : Type 0} → Option (Vec A Z) → Option (List A)
-items_in list = option_map (λ v. v.items) list
+items_in None = None
+items_in (Some list) = Some list.items
