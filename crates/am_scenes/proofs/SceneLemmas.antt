@@ -29,8 +29,8 @@ pub no_room : (first before : ℕ) (all rest : List (List ℕ)) (line : List ℕ
     rest ≡ line ∷ lines → first ≤ before → before + length rest ≡ first + length all → kind ≡ kinds.NoMemory → NoRoomFrom first (first + length all) (fault_at (before + 1) kind)
 no_room first before all rest line lines kind e fits counted is = record {
   kind = is;
-  before = omega (arith, fits);
-  last = omega (arith, ap length e, counted);
+  behind = omega (arith, fits);
+  within = omega (arith, ap length e, counted);
 }
 
 -- a line has a fault, or there is no memory for it

@@ -1,5 +1,5 @@
 -- The whole text of a scene: its head, its way and its lines.
-use Rattle.std.proofs.Common.{◌≡◌, ◌×◌, ◌≤◌, ◌<◌, ◌+◌, ◌-◌, ℕ, List, length, drop, Option, Some, None, Result, Ok, Err, refl, sym, ap, subst, ◌∙◌, inl, inr, arith, length-drop}
+use Rattle.std.proofs.Common.{◌≡◌, ◌≤◌, ◌<◌, ◌+◌, ◌-◌, ℕ, List, length, drop, Option, Some, None, Result, Ok, Err, refl, sym, ap, subst, ◌∙◌, inl, inr, arith, length-drop}
 use Rattle.am_machine.specs.{Setup, initial_state_of, setup_of}
 use Rattle.am_machine.specs.State.{State}
 use Rattle.am_script.specs.{IsOpened, NotOpened, OpenedAs, ScriptFault, ScriptFaultKind}
@@ -34,15 +34,15 @@ is_scene broke script opened lines told so arrives =
       opening = setup_of (state_of opened.world);
       opens = refl;
       leads = subst (λ (s : State). IsLed s (events_in (way_from opened.broke opened.line (drop opened.line lines)).events) (state_of told.world)) so.world arrives.leads;
-      scene = arrives.scene;
+      scene = arrives.says;
     })
 
 no_scene_behind : (before : ℕ) (lines : List (List ℕ)) (said : SceneText) (fault : SceneFault) → StopsIn before (drop before lines) said.way.scene fault → NoScene (length lines) said fault
 no_scene_behind before lines said fault (inl is) = inl is
 no_scene_behind before lines said fault (inr none) = inr (record {
   kind = none.kind;
-  first = omega (arith, none.before);
-  last = omega (arith, none.before, none.last, length-drop before lines);
+  first = omega (arith, none.behind);
+  last = omega (arith, none.behind, none.within, length-drop before lines);
 })
 
 pub is_no_scene : (broke : Option ScriptFaultKind) (script : Script) (opened : Opened) (lines : List (List ℕ)) (fault : SceneFault) → IsOpened broke script opened →

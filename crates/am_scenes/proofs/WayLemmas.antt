@@ -69,7 +69,7 @@ way_stops broke start here way first before all rest line lines kind e b fits co
 -- ---- the scene begins, or the lines end
 
 arrived : (start here : State) (all : Way) (scene : Result SceneSoFar SceneFault) → WayIsLeft start all here (only_scene scene) → Arrives all start here scene
-arrived start here all scene so = record { leads = so.leads here (no_event here); scene = so.scene }
+arrived start here all scene so = record { leads = so.leads here (no_event here); says = so.scene }
 
 pub way_arrives : (broke : Option ScriptFaultKind) (start here : State) (all : Way) (before : ℕ) (rest : List (List ℕ)) (line : List ℕ) (lines : List (List ℕ)) →
     rest ≡ line ∷ lines → begins_scene line ≡ true → WayIsLeft start all here (way_from broke before rest) → Arrives all start here (scene_from broke nothing_said before rest)

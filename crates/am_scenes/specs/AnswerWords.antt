@@ -1,6 +1,6 @@
 -- The words by which a question says what answer it asks for: own choice (docs/FORMATS.md,
 -- "Questions of a scene"; the answers themselves: "Answer lines").
-use Rattle.std.specs.Prelude.{ℕ, ◌×◌, ◌==◌, List, [], ◌∷◌, codes, bytes_eq, Option, None, Some, option_map, if◌then◌else◌}
+use Rattle.std.specs.Prelude.{ℕ, ◌==◌, List, [], ◌∷◌, codes, bytes_eq, Option, None, Some, option_map, if◌then◌else◌}
 use Rattle.std.specs.Option.{option_and_then}
 use Rattle.std.specs.Result.{result_ok}
 use Rattle.am_names.specs.{path_read}

@@ -1,5 +1,5 @@
 -- A run that wants no memory: own choice (docs/FORMATS.md, "Scenes").
-use Rattle.std.specs.Prelude.{⊤, ◌≡◌, ◌×◌, false, List, [], ◌∷◌}
+use Rattle.std.specs.Prelude.{⊤, ◌≡◌, false, List, [], ◌∷◌}
 use Rattle.am_machine.specs.{Answer, Event, Run}
 use Rattle.am_machine.specs.State.{State}
 use Rattle.am_explore.specs.Answers.{is_no_memory}

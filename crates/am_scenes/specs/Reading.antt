@@ -1,5 +1,5 @@
 -- What comes of the reading of a scene: own choice (docs/FORMATS.md, "Scenes").
-use Rattle.std.specs.Prelude.{⊤, ⊥, ◌≡◌, ◌×◌, ◌⊎◌, ◌≤◌, ◌<◌, ℕ, ◌+◌, false, List, length, Option, None, Some, Result, Ok, Err, option_copied}
+use Rattle.std.specs.Prelude.{◌≡◌, ◌⊎◌, ◌≤◌, ◌<◌, ℕ, ◌+◌, false, List, length, Option, None, Some, Result, Ok, Err, option_copied}
 use Rattle.am_machine.specs.{Answer, Event, Setup, Step, initial_state_of}
 use Rattle.am_machine.specs.State.{State}
 use Rattle.am_state.specs.{Obs}
@@ -79,7 +79,7 @@ LineStops (Err fault) kind = (kind ≡ kind_of_script fault) ⊎ (kind ≡ NoMem
 pub record NoRoomFrom (before last : ℕ) (fault : SceneFault) : Type 0 where
   pub kind : fault.kind ≡ NoMemory
   pub behind : before < fault.line
-  pub last : fault.line ≤ last
+  pub within : fault.line ≤ last
 
 -- the scene of these lines has this fault, or memory ran out at one of them
 abbrev pub StopsIn : ℕ → List (List ℕ) → Result SceneSoFar SceneFault → SceneFault → Type 0
@@ -93,7 +93,7 @@ pub record WayIsLeft (start : State) (all : Way) (here : State) (left : Way) : T
 -- the events lead to the first line of the scene
 pub record Arrives (way : Way) (start end : State) (scene : Result SceneSoFar SceneFault) : Type 0 where
   pub leads : IsLed start (events_in way.events) end
-  pub scene : way.scene ≡ scene
+  pub says : way.scene ≡ scene
 
 -- of these lines, behind so many, the way is taken, and the scene's are left
 pub record HasArrived (start : State) (before : ℕ) (lines : List (List ℕ)) (end : State) (arrival : Arrival) : Type 0 where
