@@ -1,5 +1,5 @@
 -- Failures are read one after another.
-use Rattle.std.proofs.Common.{◌≡◌, ℕ, List, [], ◌∷◌, ◌++◌, map, Option, Some, None, refl, sym, ap, ◌∙◌, append_assoc, append-nil}
+use Rattle.std.proofs.Common.{◌≡◌, ℕ, List, [], ◌∷◌, ◌++◌, map, Option, Some, None, refl, sym, ap, ◌∙◌, append_assoc}
 use Rattle.std.specs.Option.{option_map}
 use Rattle.am_names.specs.declared.fail_no.FailNo.{FailNo}
 use Rattle.am_scenes.specs.ServiceWords.{fail_read, failure_before, failures_read}
@@ -21,22 +21,5 @@ fail_more results pushed rest behind word digits failure all e f p h =
     ap (λ (r : List (Option FailNo)). with_failures r (failures_read behind)) p
     ∙ sym (before_others results failure (failures_read behind))
     ∙ sym (ap (λ (r : Option FailNo). with_failures results (failure_before r (failures_read behind))) f)
-    ∙ sym (ap (λ (r : List (List ℕ)). with_failures results (failures_read r)) e)
-    ∙ h
-
--- all are read
-pub fail_end : (results : List (Option FailNo)) (rest : List (List ℕ)) (all : Option (List (Option FailNo))) → rest ≡ [] → with_failures results (failures_read rest) ≡ all → Some results ≡ all
-fail_end results rest all e h =
-    sym (ap Some (append-nil results)) ∙ sym (ap (λ (r : List (List ℕ)). with_failures results (failures_read r)) e) ∙ h
-
--- a word stands alone
-pub fail_alone : (results : List (Option FailNo)) (rest : List (List ℕ)) (word : List ℕ) (all : Option (List (Option FailNo))) → rest ≡ word ∷ [] → with_failures results (failures_read rest) ≡ all → None ≡ all
-fail_alone results rest word all e h = sym (ap (λ (r : List (List ℕ)). with_failures results (failures_read r)) e) ∙ h
-
--- two words are no failure
-pub fail_none : (results : List (Option FailNo)) (rest behind : List (List ℕ)) (word digits : List ℕ) (all : Option (List (Option FailNo))) →
-    rest ≡ word ∷ digits ∷ behind → fail_read word digits ≡ None → with_failures results (failures_read rest) ≡ all → None ≡ all
-fail_none results rest behind word digits all e f h =
-    sym (ap (λ (r : Option FailNo). with_failures results (failure_before r (failures_read behind))) f)
     ∙ sym (ap (λ (r : List (List ℕ)). with_failures results (failures_read r)) e)
     ∙ h

@@ -1,15 +1,14 @@
 -- The whole text of a scene: its head, its way and its lines.
-use Rattle.std.proofs.Common.{◌≡◌, ◌≤◌, ◌<◌, ◌+◌, ◌-◌, ℕ, List, length, drop, Option, Some, None, Result, Ok, Err, refl, sym, ap, subst, ◌∙◌, inl, inr, arith, length-drop}
-use Rattle.am_machine.specs.{Setup, initial_state_of, setup_of}
+use Rattle.std.proofs.Common.{◌≡◌, ℕ, List, drop, Option, Some, Result, Ok, Err, IfOk, refl, sym, ap, subst, ◌∙◌}
+use Rattle.am_machine.specs.{Setup, setup_of}
 use Rattle.am_machine.specs.State.{State}
-use Rattle.am_script.specs.{IsOpened, NotOpened, OpenedAs, ScriptFault, ScriptFaultKind}
-use Rattle.am_script.specs.Script.{Script, events_in, without_world, Told as ScriptTold}
+use Rattle.am_script.specs.{IsOpened, OpenedAs, ScriptFaultKind, broken, lines_of, played, script_of}
+use Rattle.am_script.specs.Script.{Script, events_in}
 use Rattle.am_script.specs.declared.visit.Opened.{Opened}
 use Rattle.am_world.specs.Capacity.{state_of}
-use Rattle.am_scenes.specs.{IsLed, IsScene, NoRoom, NoScene, SceneFault, Told, fault_at, fault_of_script, kind_of_script, so_far_of, way_from}
-use Rattle.am_scenes.specs.declared.fault.SceneFaultKind.TheVariants.{NoEvents}
-use Rattle.am_scenes.specs.Reading.{Arrives, StopsIn}
-use Rattle.am_scenes.specs.SceneText.{SceneText, behind_head, no_world, scene_by}
+use Rattle.am_scenes.specs.{IsLed, IsScene, SceneFault, SceneSoFar, Told, scene_of, so_far_of, way_from}
+use Rattle.am_scenes.specs.Reading.{Arrives}
+use Rattle.am_scenes.specs.SceneText.{SceneText, behind_head, scene_by}
 
 -- ---- behind the head
 
@@ -37,32 +36,18 @@ is_scene broke script opened lines told so arrives =
       scene = arrives.says;
     })
 
-no_scene_behind : (before : ℕ) (lines : List (List ℕ)) (said : SceneText) (fault : SceneFault) → StopsIn before (drop before lines) said.way.scene fault → NoScene (length lines) said fault
-no_scene_behind before lines said fault (inl is) = inl is
-no_scene_behind before lines said fault (inr none) = inr (record {
-  kind = none.kind;
-  first = omega (arith, none.behind);
-  last = omega (arith, none.behind, none.within, length-drop before lines);
-})
+-- the scene behind the head of the whole lines is that of the text
+pub ok_scene : (broke : Option ScriptFaultKind) (text whole : List ℕ) (opened : Opened) (found : Option Opened) (r : Result Told SceneFault) → found ≡ Some opened → whole ≡ played broke text → OpenedAs (broken broke text) (script_of broke text) found →
+    IfOk r (λ told. Arrives (way_from opened.broke opened.line (drop opened.line (lines_of whole))) (state_of opened.world) (state_of told.world) (Ok (so_far_of told))) → IfOk r (IsScene (scene_of broke text))
+ok_scene broke text whole opened found (Err fault) e w so arrives = tt
+ok_scene broke text whole opened found (Ok told) e w so arrives =
+    is_scene (broken broke text) (script_of broke text) opened (lines_of (played broke text)) told (subst (OpenedAs (broken broke text) (script_of broke text)) e so)
+    (subst (λ (t : List ℕ). Arrives (way_from opened.broke opened.line (drop opened.line (lines_of t))) (state_of opened.world) (state_of told.world) (Ok (so_far_of told))) w arrives)
 
-pub is_no_scene : (broke : Option ScriptFaultKind) (script : Script) (opened : Opened) (lines : List (List ℕ)) (fault : SceneFault) → IsOpened broke script opened →
-    StopsIn opened.line (drop opened.line lines) (way_from opened.broke opened.line (drop opened.line lines)).scene fault → NoScene (length lines) (scene_by script broke lines) fault
-is_no_scene broke script opened lines fault so stops =
-    subst (λ (s : SceneText). NoScene (length lines) s fault) (sym (scene_opened broke script opened lines so)) (no_scene_behind opened.line lines (opened_scene opened lines) fault stops)
-
--- ---- in the head
-
--- the text ends within its head
-pub ends_in_head : (broke : Option ScriptFaultKind) (script : Script) (lines : List (List ℕ)) → OpenedAs broke script None → NoScene (length lines) (scene_by script broke lines) (fault_at (length lines) NoEvents)
-ends_in_head broke script lines so = inl (ap (λ (s : Script). (scene_by s broke lines).way.scene) so.0)
-
--- the head has a fault, or there is no memory for it
-pub head_stops : (broke : Option ScriptFaultKind) (script : Script) (lines : List (List ℕ)) (fault : ScriptFault) → NotOpened (length lines) script fault → NoScene (length lines) (scene_by script broke lines) (fault_of_script fault)
-head_stops broke script lines fault (inl none) =
-    inl (ap (λ (o : Option Setup). (behind_head o script.events_at script.told.fault broke lines).way.scene) none.0
-    ∙ ap (λ (t : ScriptTold). (behind_head None script.events_at t.fault broke lines).way.scene) none.1)
-head_stops broke script lines fault (inr none) = inr (record {
-  kind = ap kind_of_script none.kind;
-  first = none.first;
-  last = none.line;
-})
+-- what is gathered is told
+pub told_arrives : (broke : Option ScriptFaultKind) (before : ℕ) (rest lines : List (List ℕ)) (start here end : State) (said told : SceneSoFar) → rest ≡ lines → end ≡ here → told ≡ said →
+    Arrives (way_from broke before rest) start here (Ok said) → Arrives (way_from broke before lines) start end (Ok told)
+told_arrives broke before rest lines start here end said told e f g arrives =
+    subst (λ (l : List (List ℕ)). Arrives (way_from broke before l) start end (Ok told)) e
+    (subst (λ (s : State). Arrives (way_from broke before rest) start s (Ok told)) (sym f)
+    (subst (λ (t : SceneSoFar). Arrives (way_from broke before rest) start here (Ok t)) (sym g) arrives))

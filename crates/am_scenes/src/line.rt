@@ -1,6 +1,6 @@
 //! The lines of a text, and what tells them apart.
 
-ghost use Rattle.std.specs.Prelude.{◌≡◌, ◌+◌, ◌<◌, ◌≤◌, ◌^◌, ◌∷◌, [], false, length, drop, bytes_eq, IfNone, IfSome, option_copied};
+ghost use Rattle.std.specs.Prelude.{◌≡◌, ◌+◌, ◌<◌, ◌≤◌, ◌^◌, ◌∷◌, [], false, length, vec_len, drop, bytes_eq, IfNone, IfSome, option_copied};
 ghost use Rattle.am_lines.specs.{words_of};
 ghost use Rattle.am_script.specs.LineWords.{is_one};
 ghost use Rattle.am_script.specs.Lines.{lines_of, lines_in, is_long, are_skipped};
@@ -99,7 +99,8 @@ pub(crate) fn count_lines(text: &[u8]) -> u64
 
 /// The lines that were read whole: all of them, where the reader came to its end.
 pub(crate) fn whole_lines(input: &Input) -> &[u8]
-    ensures { result.now ≡ played input.now.broke input.now.text.items }
+    ensures value { result.now ≡ played input.now.broke input.now.text.items }
+    ensures few { length result.now ≤ vec_len input.now.text }
 {
     let text = input.text.as_slice();
     match input.broke {
