@@ -1,5 +1,5 @@
 -- The lines of a scene are taken one after another.
-use Rattle.std.proofs.Common.{◌≡◌, ◌⊎◌, ◌≤◌, ◌<◌, ◌+◌, ℕ, true, false, List, [], ◌∷◌, length, Option, Some, None, Result, Ok, Err, refl, sym, ap, ◌∙◌, inl, inr, arith}
+use Rattle.std.proofs.Common.{◌≡◌, ◌≤◌, ◌+◌, ℕ, false, List, [], ◌∷◌, length, Option, Result, Ok, Err, refl, ap, ◌∙◌, inl, inr, arith}
 use Rattle.am_script.specs.{ScriptFaultKind}
 use Rattle.am_script.specs.LineWords.{is_one}
 use Rattle.am_scenes.specs.{SceneFault, SceneFaultKind, SceneSoFar, after_line, fault_at, scene_from}

@@ -1,5 +1,5 @@
 -- The events of the way are made one after another.
-use Rattle.std.proofs.Common.{◌≡◌, ◌⊎◌, ◌≤◌, ◌<◌, ◌+◌, ℕ, Bool, true, false, List, [], ◌∷◌, length, cond, Option, Some, None, Result, Ok, Err, refl, sym, ap, subst, ◌∙◌, inl, inr, arith}
+use Rattle.std.proofs.Common.{◌≡◌, ◌⊎◌, ◌≤◌, ◌+◌, ℕ, Bool, true, false, List, [], ◌∷◌, length, cond, Option, Some, None, Result, Ok, Err, refl, sym, ap, subst, ◌∙◌, inl, inr}
 use Rattle.am_machine.specs.{Event}
 use Rattle.am_machine.specs.State.{State}
 use Rattle.am_script.specs.{LineReadAs, ScriptFaultKind, line_read}
@@ -75,9 +75,9 @@ pub way_arrives : (broke : Option ScriptFaultKind) (start here : State) (all : W
     rest ≡ line ∷ lines → begins_scene line ≡ true → WayIsLeft start all here (way_from broke before rest) → Arrives all start here (scene_from broke nothing_said before rest)
 way_arrives broke start here all before rest line lines e b so =
     let there =
-        ap (λ (r : List (List ℕ)). way_from broke before r) e
-        ∙ ap (λ (b : Bool). cond b (only_scene (scene_from broke nothing_said before (line ∷ lines))) (way_by (line_read line) (before + 1) (way_from broke (before + 1) lines))) b
-        ∙ sym (ap (λ (r : List (List ℕ)). only_scene (scene_from broke nothing_said before r)) e) in
+    ap (λ (r : List (List ℕ)). way_from broke before r) e
+    ∙ ap (λ (b : Bool). cond b (only_scene (scene_from broke nothing_said before (line ∷ lines))) (way_by (line_read line) (before + 1) (way_from broke (before + 1) lines))) b
+    ∙ sym (ap (λ (r : List (List ℕ)). only_scene (scene_from broke nothing_said before r)) e) in
     arrived start here all (scene_from broke nothing_said before rest) (subst (WayIsLeft start all here) there so)
 
 pub way_ends : (broke : Option ScriptFaultKind) (start here : State) (all : Way) (before : ℕ) (rest : List (List ℕ)) → rest ≡ [] → WayIsLeft start all here (way_from broke before rest) → Arrives all start here (scene_from broke nothing_said before [])

@@ -4,7 +4,7 @@ use Rattle.am_machine.specs.{Answer, Event, Setup, Step, initial_state_of}
 use Rattle.am_machine.specs.State.{State}
 use Rattle.am_state.specs.{Obs}
 use Rattle.am_script.specs.{ScriptFaultKind, lines_in}
-use Rattle.am_script.specs.Script.{Numbered, events_in}
+use Rattle.am_script.specs.Script.{events_in}
 use Rattle.am_world.specs.Capacity.{state_of}
 use Rattle.am_explore.specs.Answers.{is_no_memory}
 use Rattle.am_scenes.specs.declared.fault.SceneFault.{SceneFault}

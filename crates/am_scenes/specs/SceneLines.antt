@@ -18,7 +18,7 @@ use Rattle.am_scenes.specs.declared.fault.SceneFaultKind.TheVariants as kinds
 use Rattle.am_scenes.specs.Faults.{fault_at, kind_of_script}
 use Rattle.am_scenes.specs.QuestionWords.{question_read, thread_named}
 use Rattle.am_scenes.specs.ServiceWords.{service_read}
-use Rattle.am_scenes.specs.SoFar.{SceneSoFar, Unended, nothing_said}
+use Rattle.am_scenes.specs.SoFar.{SceneSoFar, Unended}
 
 -- ---- a line of a thread
 

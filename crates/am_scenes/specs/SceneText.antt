@@ -1,13 +1,12 @@
 -- What the whole text of a scene says: the opening of its world, the events that lead to the scene,
 -- and the scene, or the first fault. Own choice (docs/FORMATS.md, "Scenes").
-use Rattle.std.specs.Prelude.{ℕ, List, length, drop, Option, None, Some, Result, Err}
+use Rattle.std.specs.Prelude.{ℕ, List, length, drop, Option, None, Some, Err}
 use Rattle.am_machine.specs.{Setup}
 use Rattle.am_script.specs.{ScriptFault, ScriptFaultKind, broken, lines_of, played, script_of}
-use Rattle.am_script.specs.Script.{Script, Numbered}
+use Rattle.am_script.specs.Script.{Script}
 use Rattle.am_scenes.specs.declared.fault.SceneFault.{SceneFault}
 use Rattle.am_scenes.specs.declared.fault.SceneFaultKind.TheVariants.{NoEvents}
 use Rattle.am_scenes.specs.Faults.{fault_at, fault_of_script}
-use Rattle.am_scenes.specs.SoFar.{SceneSoFar}
 use Rattle.am_scenes.specs.Way.{Way, only_scene, way_from}
 
 -- the opening is there if the head is whole and faultless, as a script's

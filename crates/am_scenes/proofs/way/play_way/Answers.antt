@@ -3,7 +3,7 @@ use Rattle.am_script.specs.{lines_in}
 use Rattle.am_world.specs.Capacity.{state_of}
 use Rattle.am_scenes.specs.{SceneFault, way_from}
 use Rattle.am_scenes.specs.Reading.{StopsIn}
-use Rattle.am_scenes.proofs.WayLemmas.{way_arrives, way_begins, way_ends, way_stops, way_taken}
+use Rattle.am_scenes.proofs.WayLemmas.{way_arrives, way_begins, way_stops, way_taken}
 use Rattle.am_scenes.proofs.way.play_way.Goals as goal
 
 pub loop-rest-init : goal.loop-rest-init
