@@ -1,13 +1,15 @@
 # What a machine with the toolchain needs: nothing else is to be set up.
 SCRIPT ?= examples/first.script
-# Where run, show, trace, world and draw write; without it to standard output.
+# What explore reads: a scene, where no SCRIPT is given.
+SCENE = $(if $(filter file,$(origin SCRIPT)),examples/explore/two_walkers.scene,$(SCRIPT))
+# Where run, show, trace, world, draw and explore write; without it to standard output.
 OUT =
 # Where install puts things; with DESTDIR below that folder.
 PREFIX ?= /usr/local
 DESTDIR ?=
-export SCRIPT OUT PREFIX DESTDIR
+export SCRIPT SCENE OUT PREFIX DESTDIR
 
-.PHONY: help run show trace world draw threads examples build library install uninstall pages live quick faults test
+.PHONY: help run show trace world draw explore threads examples build library install uninstall pages live quick faults test
 
 # plays a script, and writes its answers
 run:
@@ -28,6 +30,10 @@ world:
 # plays a script, and writes the picture of what happened
 draw:
 	@tools/run.sh draw "$$SCRIPT" "$$OUT"
+
+# tries all orders of the threads of a scene, and writes what is found for each of its questions
+explore:
+	@tools/run.sh explore "$$SCENE" "$$OUT"
 
 # walkers, workers and an expirer as threads over one world
 threads:

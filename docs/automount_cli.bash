@@ -2,7 +2,7 @@
 _automount_cli() {
     local word=${COMP_WORDS[COMP_CWORD]} before=${COMP_WORDS[COMP_CWORD - 1]} words=
     if [[ $COMP_CWORD -eq 1 ]]; then
-        words="script trace draw world serve judge import threads help"
+        words="script trace draw world serve explore judge import threads help"
         [[ $word != -* ]] || words="--help --version"
     elif [[ $before == --* || $before == = ]]; then
         # A number: nothing can be completed, and a file is none.
@@ -12,8 +12,9 @@ _automount_cli() {
             trace) words="--plain" ;;
             draw) words="--from --to" ;;
             world) words="--namespace" ;;
+            explore) words="--most" ;;
             threads) words="--walkers --workers --rounds" ;;
-            help) words="script trace draw world serve judge import threads help" ;;
+            help) words="script trace draw world serve explore judge import threads help" ;;
         esac
     fi
     mapfile -t COMPREPLY < <(compgen -W "$words" -- "$word")

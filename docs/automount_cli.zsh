@@ -10,6 +10,7 @@ _automount_cli() {
         'draw:plays a script and draws what happened'
         'world:plays a script and writes the world that it leaves'
         'serve:answers each line as it comes, and what is asked between events'
+        'explore:reads a scene and tries all orders of its threads'
         'judge:reads a trace and says whether it is lawful'
         'import:reads mountinfo and writes a script that builds its mounts'
         'threads:has threads walk, serve and expire in one world'
@@ -24,6 +25,7 @@ _automount_cli() {
                 trace) _arguments '--plain[leave out the numbers of lines]' ;;
                 draw) _arguments '--from[the first event, from 1]:number: ' '--to[the last event, from 1]:number: ' ;;
                 world) _arguments '--namespace[the mounts of one namespace alone]:number: ' ;;
+                explore) _arguments '--most[the most states of one search]:number: ' ;;
                 threads) _arguments '--walkers[1 to 16]:number: ' '--workers[1 to 16]:number: ' \
                     '--rounds[1 to 1000]:number: ' ;;
                 help) _describe command commands ;;

@@ -35,6 +35,7 @@ COMMAND_LINES_THERE_ARE = b"""usage: automount_cli script|serve|judge|import < F
        automount_cli trace [--plain] < FILE
        automount_cli draw [--from N] [--to N] < FILE
        automount_cli world [--namespace N] < FILE
+       automount_cli explore [--most N] < FILE
        automount_cli threads [--walkers N] [--workers N] [--rounds N]
        automount_cli help [COMMAND]
        automount_cli --version
@@ -165,6 +166,8 @@ NO_COMMAND_LINES = [
     (["draw", "x"], fed(b"draw")), (["draw", "x", "--from", "1"], fed(b"draw")),
     (["draw", "--from", "1", "--from", "2"], b""), (["draw", "--form", "1"], b""),
     (["server"], near(b"serve")), (["serve", "x"], fed(b"serve", b"session")),
+    (["explorer"], near(b"explore")), (["explore", "x"], fed(b"explore", b"scene")), (["explore", "--most", "0"], b""),
+    (["explore", "--most", "4294967296"], b""), (["explore", "--most"], b""), (["explore", "--from", "1"], b""),
     (["judge", "x"], fed(b"judge", b"trace")), (["import", "x"], fed(b"import", b"mountinfo")),
     (["world", "--namespace", "one"], b""), (["world", "--namespace"], b""), (["world", "1"], fed(b"world")),
     (["world", "--namespace", "4294967296"], b""), (["world", "--from", "1"], b""),
@@ -261,6 +264,39 @@ FAULTS = [
     (["world"], b"events\nx\n" + LONG, b"", fault(2, b"BadEvent")),
     (["world"], b"events\nx\n" + MANY * 10000, b"", placed(2, b"BadEvent", b"x", 1, AN_EVENT)),
 ]
+# Who walks before the mount goes is inside of it, so that it stays; who walks behind that finds none.
+SCENE = b"""events
+mount 0 /a
+thread t
+walk 1 0 /a 5 room
+end
+thread u
+umount 0 /a
+end
+"""
+ASKED = SCENE + b"""sometimes t 1 at 2 /
+sometimes t 1 at 1 /a
+sometimes u 1 err 3
+never u waiting
+never t 1 fail *
+"""
+WALKED_FIRST, WALKED_LAST = b"walk 1 0 /a 5 room\numount 0 /a\n", b"umount 0 /a\nwalk 1 0 /a 5 room\n"
+BOTH = b"# orders 2 states 5 ends 2\n"
+FOUND = (b"# line 9: yes, events 2\n" + WALKED_FIRST + b"# line 10: yes, events 2\n" + WALKED_LAST
+         + b"# line 11: yes, events 2\n" + WALKED_FIRST + b"# line 12: no order\n# line 13: no order\n" + BOTH)
+# Texts that are no scenes: the line of the fault, and its word.
+NO_SCENES = [
+    (b"", 1, b"NoEvents"), (b"x\n", 1, b"BadSection"), (b"events\nx\n", 2, b"BadEvent"), (TOO_LONG[0], 2, b"LongLine"),
+    (b"events\nthread t\nend\nleave 1\n", 4, b"BadLine"),
+    (b"events\nthread t\nend\nnever t waiting\nserve daemon\n", 5, b"LateLine"),
+    (b"events\nthread t u\nend\n", 2, b"BadThread"), (b"events\nthread t\nend\nthread t\nend\n", 4, b"ThreadTwice"),
+    (b"events\nthread t\nleave 1\n", 2, b"NoEnd"), (b"events\nthread t\nx\nend\n", 3, b"BadThreadEvent"),
+    (b"events\nserve daemon fail 10\n", 2, b"BadService"),
+    (b"events\nserve daemon\nserve daemon\n", 3, b"ServiceTwice"),
+    (b"events\nthread t\nend\nnever t\n", 4, b"BadQuestion"), (b"events\nnever t waiting\n", 2, b"NoSuchThread"),
+    (b"events\nthread t\nend\nnever t 1 *\n", 4, b"NoSuchEvent"),
+    (b"events\nthread t\nleave 1\nend\nnever t 1 ok\n", 5, b"BadAnswer"),
+]
 COMMAND_LINES = [
     (["script"], b"# nothing\n", (0, b"", b"")),
     (["script"], SHORT + b"x\n", (1, b"mount 2\nerr 5\n", placed(4, b"BadEvent", b"x", 1, AN_EVENT))),
@@ -276,6 +312,23 @@ COMMAND_LINES = [
     (["world"], b"events\nmount 0 /a\nx\n", (1, b"", placed(3, b"BadEvent", b"x", 1, AN_EVENT))),
     (["serve"], b"", (0, b"", b"")),
     (["serve"], b"events\nx\n" + SHORT[7:], (0, b".\nfault 2:1 BadEvent expected the word of an event\n.\nmount 2\n.\nerr 5\n.\n", b"")),
+    (["explore"], ASKED, (0, FOUND, b"")), (["explore", "--most", "5"], ASKED, (0, FOUND, b"")),
+    (["explore"], b"events\n", (0, b"# orders 1 states 1 ends 1\n", b"")), (["explore"], SCENE, (0, BOTH, b"")),
+    (["explore", "--most", "1"], b"events\n", (0, b"# orders 1 states 1 ends 1\n", b"")),
+    (["explore"], SCENE + b"never t 1 at 2 *\n", (1, b"", fault(9, b"BadAnswer"))),
+    (["explore"], SCENE + b"sometimes t waiting\nnever u 1 err *\n",
+     (1, b"# line 9: no order\n# line 10: yes, events 2\n" + WALKED_FIRST + BOTH, b"")),
+    (["explore"], SCENE + b"sometimes t waiting\nnever u waiting\n",
+     (1, b"# line 9: no order\n# line 10: no order\n" + BOTH, b"")),
+    (["explore"], SCENE + b"never u 1 err 3\nnever u waiting\n",
+     (1, b"# line 9: yes, events 2\n" + WALKED_FIRST + b"# line 10: no order\n" + BOTH, b"")),
+    (["explore", "--most", "4"], ASKED, (3, b"".join(b"# line %d: not all seen\n" % line for line in range(9, 14))
+                                         + b"# not all seen, states 4\n", b"")),
+    (["explore", "--most", "1"], SCENE, (0, b"# not all seen, states 1\n", b"")),
+    *((["explore"], given, (1, b"", fault(line, word))) for given, line, word in NO_SCENES),
+    # What was found is a script behind the events of its scene.
+    *((["script"], b"events\nmount 0 /a\n" + order, (0, b"mount 2\n" + wrote, b""))
+      for order, wrote in ((WALKED_FIRST, b"at 2 /\nerr 3\n"), (WALKED_LAST, b"gone 2\nat 1 /a\n"))),
     (["judge"], b"", (0, b"lawful\n", b"")),
     (["judge"], BROKEN, (1, b"line 2: a walker waits on a token that is open\n", b"")),
     (["judge"], b"  left 1 mount 5\n  died now\n", (1, b"", b"fault: line 2, column 7: the end of the line expected\n")),
@@ -310,8 +363,8 @@ HELPFUL = (["help"], ["--help"], ["help", "draw"], ["script", "-h"], ["--version
 REFUSED = ((["scrip"], (near(b"script"), b"")), (["help", "wrld"], (near(b"world"), b"")), (["nothing"], (b"",)),
            (["draw", "x"], (fed(b"draw"),)), (["draw", "--to", "0"], (b"",)))
 # Faults, each of another ending, which standard error doesn't take.
-MUTE = ((["script"], SHORT + b"x\n"), (["trace"], b"events\nx\n"), (["judge"], b"  x\n"), (["import"], b"x\n"),
-        (["x"], b""), ([], b""))
+MUTE = ((["script"], SHORT + b"x\n"), (["trace"], b"events\nx\n"), (["explore"], b"x\n"), (["judge"], b"  x\n"),
+        (["import"], b"x\n"), (["x"], b""), ([], b""))
 # What is shown, how many bytes are taken at once and how many in all, and the line at which the loss is told, if it is at one.
 LOSSES = [
     ("trace", SHORT, 100, 0, 2), ("trace", SHORT, 7, 1, 2), ("trace", SHORT, 100, 39, 2), ("trace", SHORT, 7, 40, 3),
@@ -323,6 +376,7 @@ LOSSES = [
     ("--version", b"", 100, 0, None), ("--version", b"", 7, 15, None),
     ("threads", b"", 100, 0, None), ("threads", b"", 2, 8, None),
     ("import", MOUNTS, 100, 0, None), ("import", MOUNTS, 7, 33, None), ("import", MOUNTS, 1, 140, None),
+    ("explore", ASKED, 100, 0, None), ("explore", ASKED, 7, 60, None), ("explore", ASKED, 1, 150, None),
     ("judge", BROKEN, 100, 0, None), ("judge", BROKEN, 5, 20, None), ("judge", LAWFUL, 1, 6, None),
     *(("world", A_WORLD, 1 << 20, room, 11) for room in (0, 1, 100, 300)),
 ]
@@ -551,7 +605,8 @@ def refusals(program, refuse):
     """The commands that are run with each allocation refused, each as its name and what does so."""
     rows = [
         (["script"], SHORT, beginnings(ANSWERS)), (["trace"], SHORT, beginnings(TRACES)),
-        (["judge"], LAWFUL, ([b""], [b"lawful\n"])), (["import"], MOUNTS, ([b""], [IMPORTED])),
+        (["judge"], LAWFUL, ([b""], [b"lawful\n"])), (["explore"], ASKED, ([b""], [FOUND])),
+        (["import"], MOUNTS, ([b""], [IMPORTED])),
         (["import"], TRAPS, ([b""], [program.run(["import"], TRAPS)[1]])),
         (["draw"], b"events\n", ([b""], [program.run(["draw"], b"events\n")[1]])),
         (["world"], b"events\n", ([b""], [INITIAL])), (["world"], A_WORLD, ([b""], [WORLD])),
@@ -632,7 +687,7 @@ def checks(program):
     little, refuse = program.built("little"), program.built("refuse")
     for row in LOSSES:
         yield f"{row[0]}: {row[2]} bytes at once, {row[3]} in all", lambda row=row: is_lost(program, little, row)
-    for command in ("script", "trace", "draw", "world", "serve", "judge", "help", "--version"):
+    for command in ("script", "trace", "draw", "world", "serve", "explore", "judge", "help", "--version"):
         for most in (1, 7, 5000):
             yield f"{command}: {most} bytes at once", lambda command=command, most=most: is_whole(program, little, command, most)
     for words, run in refusals(program, refuse):

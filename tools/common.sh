@@ -36,7 +36,8 @@ tell_fault() {
         text=$(sed -n "${line}{p;q}" "$2" | LC_ALL=C cut -b 1-200 | cat -v)
         echo "$(basename "$0" .sh): line $line of $2 is: ${text:-blank, or behind its end}" >&2
     fi
-    echo "$(basename "$0" .sh): docs/FORMATS.md has what a line may be (Scripts), and what $word means (Faults)" >&2
+    parts="what a line may be (${lines_in:-Scripts}), and what $word means (${faults_in:-Faults})"
+    echo "$(basename "$0" .sh): docs/FORMATS.md has $parts" >&2
 }
 
 # No word is expected.

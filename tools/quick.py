@@ -5,7 +5,7 @@ usage: tools/quick.py
 
 The tests of each crate that has some are built without proof and run (`rt try`), those of maps, packets and names
 once more, with an allocation of each test refused; and so is the program: it plays the examples and the files of
-`tests`, and sweeps over three scripts, runs its commands, and is driven over two pipes; the pages are compared with
+`tests`, and sweeps over three scripts, explores the scenes of `examples`, runs its commands, and is driven over two pipes; the pages are compared with
 the repository, and what they show is run. What is loaded before a program, as where each allocation is refused in
 turn, takes the proved one. As many of these go on side by side as there are processors. The last line counts all.
 """
@@ -26,7 +26,7 @@ PATIENCE = ("--seconds", "400", "--steps", "1000000000000")
 # The tests that are run once more with an allocation refused, and with which: a build for each.
 REFUSED = (("am_text_tests", 9),)
 # What plays the program that all of these share, which is built once.
-SHARED = ("examples.sh", "bars.py", "pipes.py", "serve.py", "commands.py", "judge.py", "imports.py", "scripts.py", "sweeps.py catatonic death_and_reattachment first", "run_pages")
+SHARED = ("examples.sh", "bars.py", "pipes.py", "serve.py", "commands.py", "judge.py", "imports.py", "explores.py", "scripts.py", "sweeps.py catatonic death_and_reattachment first", "run_pages")
 
 
 def text_of(path):

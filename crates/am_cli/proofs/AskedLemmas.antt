@@ -7,7 +7,7 @@ use Rattle.clap.specs.declared.error.kind.ErrorKind.TheVariants as answers
 use Rattle.am_cli.specs.Args.{IsInRange, IsNumberUpTo, IsUpTo}
 use Rattle.am_cli.specs.CommandLine.{AnswersBy, Asks, AsksFor, AsksForNone, AsksNothing, IsAsked, IsNumber, IsNumberIn, IsRefused, IsRefusedBy, cli, flagged, helped}
 use Rattle.am_cli.specs.declared.args.Args.{Args}
-use Rattle.am_cli.specs.declared.args.Args.TheVariants.{Trace, Draw, World, Threads, Help, Version}
+use Rattle.am_cli.specs.declared.args.Args.TheVariants.{Trace, Draw, World, Explore, Threads, Help, Version}
 use Rattle.am_cli.specs.declared.args.ArgsFault.{ArgsFault}
 use Rattle.am_cli.specs.declared.args.ArgsFault.TheVariants.{NoMemory, Usage}
 use Rattle.am_cli.specs.declared.topics.Topic.{Topic}
@@ -27,6 +27,11 @@ no_draw rows refuses _ asks range = absurd asks
 pub no_world : (rows : List Row) → ((namespace : Option ℕ) → IsNumberIn rows (codes "namespace") namespace → IsNumberUpTo 4294967295 namespace → ⊥) → AsksForNone topics.World rows
 no_world rows refuses (World namespace) asks range = refuses namespace asks range
 no_world rows refuses _ asks range = absurd asks
+
+pub no_explore : (rows : List Row) → ((most : ℕ) → IsNumber rows (codes "most") most → IsInRange (Explore most) → ⊥)
+    → AsksForNone topics.Explore rows
+no_explore rows refuses (Explore most) asks range = refuses most asks range
+no_explore rows refuses _ asks range = absurd asks
 
 pub no_threads : (rows : List Row) → ((walkers workers rounds : ℕ) → IsNumber rows (codes "walkers") walkers → IsNumber rows (codes "workers") workers → IsNumber rows (codes "rounds") rounds → IsInRange (Threads walkers workers rounds) → ⊥) → AsksForNone topics.Threads rows
 no_threads rows refuses (Threads walkers workers rounds) asks range = refuses walkers workers rounds asks.0 asks.1 asks.2 range

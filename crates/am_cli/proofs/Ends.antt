@@ -5,17 +5,23 @@ use Rattle.am_mountinfo.specs.{ShowsInput, StopsShowing}
 use Rattle.am_recall.specs.declared.recalled.Recalled.{Recalled}
 use Rattle.am_runner.specs.{IsTally, Tally}
 use Rattle.am_script.specs.{PlaysInput, StopsInput, ScriptFault, Summary, answers_alone}
-use Rattle.am_cli.specs.{Exits, Played, Stopped, Traced, TraceStopped, Drawn, DrawStopped, Shown, ShowStopped, Judged, JudgeStopped, Served, ServeStopped, Imported, ImportStopped, Ran, Untold, NotRun, Helped, NotHelped, Versioned, NotVersioned, rounds_line, status_of_verdict, style_of, SaysWhole}
+use Rattle.am_cli.specs.{Exits, Played, Stopped, Traced, TraceStopped, Drawn, DrawStopped, Shown, ShowStopped, Judged}
+use Rattle.am_cli.specs.{JudgeStopped, Served, ServeStopped, Explored, ExploreStopped, Imported, ImportStopped, Ran}
+use Rattle.am_cli.specs.{Untold, NotRun, Helped, NotHelped, Versioned, NotVersioned, rounds_line, status_of_findings}
+use Rattle.am_cli.specs.{status_of_verdict, style_of, SaysWhole}
 use Rattle.am_cli.specs.Help.{help_text, version_line}
-use Rattle.am_cli.specs.Telling.{import_told, judge_told, script_told, Tells, TellsFault, word_told}
+use Rattle.am_cli.specs.Telling.{explore_told, import_told, judge_told, script_told, Tells, TellsFault, word_told}
 use Rattle.am_draw.specs.{DrawsInput, StopsDrawing}
+use Rattle.am_findings.specs.{ExploresInput, StopsExploring, ExploreFault}
+use Rattle.am_findings.specs.declared.verdict.Verdict.{Verdict as Findings}
 use Rattle.am_import.specs.{ImportsInput, StopsImporting, ImportFault}
 use Rattle.am_serve.specs.{ServesInput, StopsServing}
 use Rattle.am_traces.specs.Judged.{JudgesInput, StopsJudging}
 use Rattle.am_traces.specs.declared.verdict.JudgeFault.{JudgeFault}
 use Rattle.am_traces.specs.declared.verdict.Verdict.{Verdict}
 use Rattle.am_views.specs.{TraceStyle, traced}
-use Rattle.am_cli.specs.declared.args.Args.TheVariants.{Script, Trace, Draw, World, Serve, Judge, Import, Threads, Help, Version}
+use Rattle.am_cli.specs.declared.args.Args.TheVariants.{Script, Trace, Draw, World, Serve, Explore, Judge, Import}
+use Rattle.am_cli.specs.declared.args.Args.TheVariants.{Threads, Help, Version}
 use Rattle.am_cli.specs.declared.topics.Topic.{Topic}
 
 pub ends_played : (recalled : Recalled) (input rest old new quiet : Option (List ℕ)) (summary : Summary) → PlaysInput answers_alone input rest old new summary → Exits Script recalled input rest old new quiet quiet 0
@@ -47,6 +53,20 @@ ends_served recalled input rest old new quiet serves = record { end = Served; as
 
 pub ends_serve_stopped : (recalled : Recalled) (input rest old new quiet told : Option (List ℕ)) (fault : ScriptFault) → StopsServing input rest old new fault → Tells quiet told (script_told fault []) → Exits Serve recalled input rest old new quiet told 1
 ends_serve_stopped recalled input rest old new quiet told fault stops tells = record { end = ServeStopped fault; asked_is = refl; status_is = refl; streams = (stops, tells) }
+
+pub ends_explored : (recalled : Recalled) (most states : ℕ) → states ≡ most
+    → (input rest old new quiet : Option (List ℕ)) (findings : Findings) (status : ℕ)
+    → ExploresInput states input rest old new findings → status ≡ status_of_findings findings
+    → Exits (Explore most) recalled input rest old new quiet quiet status
+ends_explored recalled most states is input rest old new quiet findings status explores e = record
+    { end = Explored states findings; asked_is = cc; status_is = e; streams = (explores, refl) }
+
+pub ends_explore_stopped : (recalled : Recalled) (most states : ℕ) → states ≡ most
+    → (input rest old new quiet told : Option (List ℕ)) (fault : ExploreFault)
+    → StopsExploring states input rest old new fault → Tells quiet told (explore_told fault)
+    → Exits (Explore most) recalled input rest old new quiet told 1
+ends_explore_stopped recalled most states is input rest old new quiet told fault stops tells = record
+    { end = ExploreStopped states fault; asked_is = cc; status_is = refl; streams = (stops, tells) }
 
 pub ends_judged : (recalled : Recalled) (input rest old new quiet : Option (List ℕ)) (verdict : Verdict) (status : ℕ) → JudgesInput input rest old new verdict → status ≡ status_of_verdict verdict → Exits Judge recalled input rest old new quiet quiet status
 ends_judged recalled input rest old new quiet verdict status judges e = record { end = Judged verdict; asked_is = refl; status_is = e; streams = (judges, refl) }

@@ -2,7 +2,8 @@
 -- (docs/FORMATS.md, "The program").
 use Rattle.std.specs.Prelude.{ℕ, ◌≤◌, ⊤, Option, None, Some}
 use Rattle.am_cli.specs.declared.args.Args.{Args}
-use Rattle.am_cli.specs.declared.args.Args.TheVariants.{Script, Trace, Draw, World, Serve, Judge, Import, Threads, Help, Version}
+use Rattle.am_cli.specs.declared.args.Args.TheVariants.{Script, Trace, Draw, World, Serve, Explore, Judge, Import}
+use Rattle.am_cli.specs.declared.args.Args.TheVariants.{Threads, Help, Version}
 use Rattle.am_cli.specs.declared.args.ArgsFault.{ArgsFault}
 use Rattle.am_cli.specs.declared.args.ArgsFault.TheVariants.{NoMemory, Usage}
 
@@ -20,13 +21,14 @@ abbrev pub IsNumberUpTo : ℕ → Option ℕ → Type 0
 IsNumberUpTo most None = ⊤
 IsNumberUpTo most (Some number) = number ≤ most
 
--- numbers of events and of a namespace, and so many threads and rounds, as may be asked for
+-- numbers of events, of a namespace and of states, and so many threads and rounds, as may be asked for
 abbrev pub IsInRange : Args → Type 0
 IsInRange Script = ⊤
 IsInRange (Trace plain) = ⊤
 IsInRange (Draw first last) = IsUpTo 4294967295 first × IsUpTo 4294967295 last
 IsInRange (World namespace) = IsNumberUpTo 4294967295 namespace
 IsInRange Serve = ⊤
+IsInRange (Explore most) = IsUpTo 4294967295 most
 IsInRange Judge = ⊤
 IsInRange Import = ⊤
 IsInRange (Threads walkers workers rounds) = IsUpTo 16 walkers × IsUpTo 16 workers × IsUpTo 1000 rounds

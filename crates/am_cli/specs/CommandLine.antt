@@ -11,7 +11,8 @@ use Rattle.clap.specs.Simple.{on_top}
 use Rattle.clap.specs.declared.builder.action.ArgAction.TheVariants.{Set, SetTrue}
 use Rattle.clap.specs.declared.builder.value_parser.ValueParser.TheVariants.{Signed}
 use Rattle.am_cli.specs.declared.args.Args.{Args}
-use Rattle.am_cli.specs.declared.args.Args.TheVariants.{Script, Trace, Draw, World, Serve, Judge, Import, Threads, Help, Version}
+use Rattle.am_cli.specs.declared.args.Args.TheVariants.{Script, Trace, Draw, World, Serve, Explore, Judge, Import}
+use Rattle.am_cli.specs.declared.args.Args.TheVariants.{Threads, Help, Version}
 use Rattle.am_cli.specs.declared.args.ArgsFault.{ArgsFault}
 use Rattle.am_cli.specs.declared.args.ArgsFault.TheVariants.{NoMemory, Usage}
 use Rattle.am_cli.specs.declared.topics.Topic.{Topic}
@@ -59,6 +60,10 @@ world_app = with_rule (new_app (codes "world")) (number_rule (codes "namespace")
 abbrev pub serve_app : App
 serve_app = new_app (codes "serve")
 
+-- the command `explore`, with how many states one search looks at
+abbrev pub explore_app : App
+explore_app = with_rule (new_app (codes "explore")) (default_rule (codes "most") (codes "1000000"))
+
 -- the command `judge`, which has no options
 abbrev pub judge_app : App
 judge_app = new_app (codes "judge")
@@ -87,10 +92,11 @@ bare_program =
     (on_top (λ s. record s { disable_help_subcommand = true })
     (on_top (λ s. record s { subcommand_required = true }) (new_app (codes "automount_cli"))))
 
--- the program, with its nine commands
+-- the program, with its ten commands
 abbrev pub cli : App
 cli =
     with_subcommand
+    (with_subcommand
     (with_subcommand
     (with_subcommand
     (with_subcommand
@@ -101,6 +107,7 @@ cli =
     draw_app.top)
     world_app.top)
     serve_app.top)
+    explore_app.top)
     judge_app.top)
     import_app.top)
     threads_app.top)
@@ -150,6 +157,7 @@ AsksFor topics.Draw rows (Draw first last) =
     IsNumber rows (codes "from") first × IsNumber rows (codes "to") last
 AsksFor topics.World rows (World namespace) = IsNumberIn rows (codes "namespace") namespace
 AsksFor topics.Serve rows Serve = ⊤
+AsksFor topics.Explore rows (Explore most) = IsNumber rows (codes "most") most
 AsksFor topics.Judge rows Judge = ⊤
 AsksFor topics.Import rows Import = ⊤
 AsksFor topics.Threads rows (Threads walkers workers rounds) =

@@ -24,16 +24,16 @@ program_help =
     ++ (codes "  trace    the same, with each event and what is seen of it; --plain for diff\n"
     ++ (codes "  draw     reads a script, and writes a picture of what happens, an SVG\n"
     ++ (codes "             --from N, --to N  draw the events from one number to another\n"
-    ++ (codes "  world    reads a script, and writes the world that it leaves\n"
-    ++ (codes "             --namespace N     writes the mounts of one namespace alone\n"
+    ++ (codes "  world    reads a script, and writes the world that it leaves; --namespace N\n"
     ++ (codes "  serve    reads lines, and answers each as it comes: events and questions\n"
+    ++ (codes "  explore  reads a scene, and tries all orders of its threads; --most N states\n"
     ++ (codes "  judge    reads a trace, and writes whether it is lawful\n"
     ++ (codes "  import   reads mountinfo, and writes a script that builds its mounts\n"
-    ++ (codes "  threads  runs threads over one world, and writes how many rounds they made\n"
-    ++ (codes "             --walkers N, --workers N, --rounds N\n"
+    ++ (codes "  threads  runs threads over one world; --walkers N, --workers N, --rounds N\n"
     ++ (codes "  help     writes this, or what a COMMAND does; so do --help and -h\n\n"
     ++ (codes "--version and -V write the version.\n"
-    ++ (codes "Exit status: 0 done; 1 a fault, or a trace that breaks a law; 2 no command line.\n"
+    ++ (codes "Exit status: 0 done; 1 a fault, a trace that breaks a law, or a question that\n"
+    ++ (codes "doesn't come out as asked; 2 no command line; 3 not all orders were seen.\n"
     ++ codes "Example: echo events | automount_cli world\n"))))))))))))))))))
 
 -- what help says of the command `script`
@@ -105,6 +105,25 @@ serve_help =
     ++ (codes "standard error with its line.\n"
     ++ codes "Example: echo '!reset' | automount_cli serve\n"))))))))))))))))
 
+-- what help says of the command `explore`
+abbrev pub explore_help : List ℕ
+explore_help =
+    codes "Usage: automount_cli explore [--most N] < SCENE\n\n"
+    ++ (codes "Reads a scene, whole: a script, and behind its events threads and questions.\n"
+    ++ (codes "Tries all orders in which the threads' events can come, and writes for each\n"
+    ++ (codes "question whether some order meets it, with the events of a shortest one.\n\n"
+    ++ (codes "  thread NAME .. end     the events of a thread, a line each, in their order\n"
+    ++ (codes "  serve daemon [fail N]  the daemon takes part; its acts may fail with error N\n"
+    ++ (codes "  sometimes, never       before what is asked: NAME waiting, that this thread\n"
+    ++ (codes "                         waits without end; or NAME N ANSWER, that its event\n"
+    ++ (codes "                         number N is answered so\n\n"
+    ++ (codes "Options:\n"
+    ++ (codes "  --most N    the most states that one search looks at; 1000000 if left out\n"
+    ++ (codes "  -h, --help  write this\n\n"
+    ++ (codes "Exit status: 0 each came out as asked, by an order or by none; 1 one didn't, or\n"
+    ++ (codes "a fault, told on standard error; 3 else, where a search was cut.\n"
+    ++ codes "Example: automount_cli explore --most 5000 < FILE\n")))))))))))))
+
 -- what help says of the command `judge`
 abbrev pub judge_help : List ℕ
 judge_help =
@@ -156,8 +175,9 @@ usage_text =
     ++ (codes "       automount_cli trace [--plain] < FILE\n"
     ++ (codes "       automount_cli draw [--from N] [--to N] < FILE\n"
     ++ (codes "       automount_cli world [--namespace N] < FILE\n"
+    ++ (codes "       automount_cli explore [--most N] < FILE\n"
     ++ (codes "       automount_cli threads [--walkers N] [--workers N] [--rounds N]\n"
-    ++ codes "       automount_cli help [COMMAND]\n       automount_cli --version\n"))))
+    ++ codes "       automount_cli help [COMMAND]\n       automount_cli --version\n")))))
 
 -- what help says of a command, or of the program
 abbrev pub help_text : Option Topic → List ℕ
@@ -167,6 +187,7 @@ help_text (Some topics.Trace) = trace_help
 help_text (Some topics.Draw) = draw_help
 help_text (Some topics.World) = world_help
 help_text (Some topics.Serve) = serve_help
+help_text (Some topics.Explore) = explore_help
 help_text (Some topics.Judge) = judge_help
 help_text (Some topics.Import) = import_help
 help_text (Some topics.Threads) = threads_help

@@ -3,11 +3,15 @@ use Rattle.std.specs.Prelude.{◌<◌, ◌∷◌, ℕ, List, [], codes, decimal,
 use Rattle.std.specs.List.{flat_map}
 use Rattle.std.specs.Io.KnownBytes.{Appends}
 use Rattle.am_explain.specs.{HelpsWith}
+use Rattle.am_findings.specs.{ExploreFault}
+use Rattle.am_findings.specs.declared.explore.ExploreFault.TheVariants as unexplored
 use Rattle.am_import.specs.{ImportFault}
 use Rattle.am_import.specs.declared.imports.ImportFault.TheVariants as unmade
 use Rattle.am_mount_lines.specs.declared.misfit.Expected.{Expected as MountExpected}
 use Rattle.am_mount_lines.specs.declared.misfit.Expected.TheVariants as in_mounts
 use Rattle.am_recall.specs.declared.recalled.Recalled.{Recalled}
+use Rattle.am_scenes.specs.{SceneFault, SceneFaultKind}
+use Rattle.am_scenes.specs.declared.fault.SceneFaultKind.TheVariants as of_scene
 use Rattle.am_script.specs.{ScriptFault}
 use Rattle.am_serve.specs.{kind_word}
 use Rattle.am_traces.specs.declared.fault.Expected.{Expected as TraceExpected}
@@ -54,6 +58,36 @@ script_told fault below = line_told fault.line (kind_word fault.kind) below
 abbrev pub TellsFault : Recalled → ScriptFault → Option (List ℕ) → Option (List ℕ) → Type 0
 TellsFault recalled fault quiet told =
     (help : List ℕ) × HelpsWith recalled fault help × Tells quiet told (script_told fault help)
+
+-- ---- the faults of a scene that is to be explored
+
+-- the word for a fault of a scene: that of a script's fault, or one of its own
+abbrev pub scene_word : SceneFaultKind → List ℕ
+scene_word (of_scene.Script kind) = kind_word kind
+scene_word of_scene.NoEvents = codes "NoEvents"
+scene_word of_scene.BadLine = codes "BadLine"
+scene_word of_scene.LateLine = codes "LateLine"
+scene_word of_scene.BadThread = codes "BadThread"
+scene_word of_scene.ThreadTwice = codes "ThreadTwice"
+scene_word of_scene.NoEnd = codes "NoEnd"
+scene_word of_scene.BadThreadEvent = codes "BadThreadEvent"
+scene_word of_scene.BadService = codes "BadService"
+scene_word of_scene.ServiceTwice = codes "ServiceTwice"
+scene_word of_scene.BadQuestion = codes "BadQuestion"
+scene_word of_scene.NoSuchThread = codes "NoSuchThread"
+scene_word of_scene.NoSuchEvent = codes "NoSuchEvent"
+scene_word of_scene.BadAnswer = codes "BadAnswer"
+scene_word of_scene.NoMemory = codes "NoMemory"
+
+-- what is told of it, at its line
+abbrev pub scene_told : SceneFault → List ℕ
+scene_told fault = line_told fault.line (scene_word fault.kind) []
+
+-- what is told where a scene isn't explored, or what was found isn't written
+abbrev pub explore_told : ExploreFault → List ℕ
+explore_told (unexplored.Scene fault) = scene_told fault
+explore_told unexplored.NoMemory = word_told (codes "NoMemory")
+explore_told unexplored.WriteFailed = word_told (codes "WriteFailed")
 
 -- ---- the faults of a trace that is to be judged
 

@@ -10,6 +10,7 @@ name_of topics.Trace = codes "trace"
 name_of topics.Draw = codes "draw"
 name_of topics.World = codes "world"
 name_of topics.Serve = codes "serve"
+name_of topics.Explore = codes "explore"
 name_of topics.Judge = codes "judge"
 name_of topics.Import = codes "import"
 name_of topics.Threads = codes "threads"
@@ -23,6 +24,7 @@ topic_named word =
     else if bytes_eq word (codes "draw") then Some topics.Draw
     else if bytes_eq word (codes "world") then Some topics.World
     else if bytes_eq word (codes "serve") then Some topics.Serve
+    else if bytes_eq word (codes "explore") then Some topics.Explore
     else if bytes_eq word (codes "judge") then Some topics.Judge
     else if bytes_eq word (codes "import") then Some topics.Import
     else if bytes_eq word (codes "threads") then Some topics.Threads
@@ -49,6 +51,7 @@ reads_input topics.Trace = true
 reads_input topics.Draw = true
 reads_input topics.World = true
 reads_input topics.Serve = true
+reads_input topics.Explore = true
 reads_input topics.Judge = true
 reads_input topics.Import = true
 reads_input topics.Threads = false
@@ -61,6 +64,7 @@ input_of topics.Trace = codes "script"
 input_of topics.Draw = codes "script"
 input_of topics.World = codes "script"
 input_of topics.Serve = codes "session"
+input_of topics.Explore = codes "scene"
 input_of topics.Judge = codes "trace"
 input_of topics.Import = codes "mountinfo"
 input_of topics.Threads = codes "nothing"

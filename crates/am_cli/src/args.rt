@@ -38,6 +38,11 @@ pub enum Args {
     },
     /// Serves the session on standard input.
     Serve,
+    /// Explores all orders of the scene on standard input.
+    Explore {
+        /// How many states one search looks at, at most.
+        most: u32,
+    },
     /// Judges the trace on standard input.
     Judge,
     /// Makes a script of the mountinfo on standard input.
@@ -183,6 +188,16 @@ fn world(given: &ArgMatches<'_>) -> Result<Args, ArgsFault>
     })
 }
 
+fn explore(given: &ArgMatches<'_>) -> Result<Args, ArgsFault>
+    ensures range { IfOk result IsInRange }
+    ensures asks { IfOk result (AsksFor topics.Explore (rows_of (found_of given.now))) }
+    ensures refused { IfErr result (λ _. AsksForNone topics.Explore (rows_of (found_of given.now))) }
+{
+    Ok(Args::Explore {
+        most: number(given, "most", u32::MAX)?,
+    })
+}
+
 fn help(given: &ArgMatches<'_>) -> Result<Args, ArgsFault>
     ensures range { IfOk result IsInRange }
     ensures asks { IfOk result (AsksFor topics.Help (rows_of (found_of given.now))) }
@@ -209,6 +224,7 @@ fn asked(topic: Topic, given: &ArgMatches<'_>) -> Result<Args, ArgsFault>
         Topic::Draw => draw(given),
         Topic::World => world(given),
         Topic::Serve => Ok(Args::Serve),
+        Topic::Explore => explore(given),
         Topic::Judge => Ok(Args::Judge),
         Topic::Import => Ok(Args::Import),
         Topic::Threads => threads(given),

@@ -2,7 +2,7 @@
 
 ghost use Rattle.std.specs.Prelude.{◌≡◌, false, IfOk};
 ghost use Rattle.clap.specs.Words.{rule_of};
-ghost use Rattle.am_cli.specs.CommandLine.{number_rule, default_rule, flag_rule, trace_app, draw_app, world_app, threads_app, help_app, bare_program, cli, IsCommand};
+ghost use Rattle.am_cli.specs.CommandLine.{number_rule, default_rule, flag_rule, trace_app, draw_app, world_app, explore_app, threads_app, help_app, bare_program, cli, IsCommand};
 
 use crate::help::version;
 use clap::{Arg, ArgAction, Command, value_parser};
@@ -55,6 +55,12 @@ fn world_command<'a>(alloc: Global) -> Result<Command<'a>, AllocError>
     Command::new(alloc, "world").arg(option(alloc, "namespace"))
 }
 
+fn explore_command<'a>(alloc: Global) -> Result<Command<'a>, AllocError>
+    ensures { IfOk result (IsCommand explore_app) }
+{
+    Command::new(alloc, "explore").arg(option_or(alloc, "most", "1000000"))
+}
+
 fn threads_command<'a>(alloc: Global) -> Result<Command<'a>, AllocError>
     ensures { IfOk result (IsCommand threads_app) }
 {
@@ -90,6 +96,7 @@ pub(crate) fn command<'a>(alloc: Global) -> Result<Command<'a>, AllocError>
         .subcommand(draw_command(alloc)?)?
         .subcommand(world_command(alloc)?)?
         .subcommand(Command::new(alloc, "serve"))?
+        .subcommand(explore_command(alloc)?)?
         .subcommand(Command::new(alloc, "judge"))?
         .subcommand(Command::new(alloc, "import"))?
         .subcommand(threads_command(alloc)?)?

@@ -1,7 +1,7 @@
 //! What help and the version say, and how the program is used.
 
 ghost use Rattle.std.specs.Prelude.{◌≡◌};
-ghost use Rattle.am_cli.specs.Help.{help_text, version, program_help, script_help, trace_help, draw_help, world_help, serve_help, judge_help, import_help, threads_help, help_help, usage_text};
+ghost use Rattle.am_cli.specs.Help.{help_text, version, program_help, script_help, trace_help, draw_help, world_help, serve_help, explore_help, judge_help, import_help, threads_help, help_help, usage_text};
 
 use crate::topics::Topic;
 
@@ -26,17 +26,17 @@ Commands:
   trace    the same, with each event and what is seen of it; --plain for diff
   draw     reads a script, and writes a picture of what happens, an SVG
              --from N, --to N  draw the events from one number to another
-  world    reads a script, and writes the world that it leaves
-             --namespace N     writes the mounts of one namespace alone
+  world    reads a script, and writes the world that it leaves; --namespace N
   serve    reads lines, and answers each as it comes: events and questions
+  explore  reads a scene, and tries all orders of its threads; --most N states
   judge    reads a trace, and writes whether it is lawful
   import   reads mountinfo, and writes a script that builds its mounts
-  threads  runs threads over one world, and writes how many rounds they made
-             --walkers N, --workers N, --rounds N
+  threads  runs threads over one world; --walkers N, --workers N, --rounds N
   help     writes this, or what a COMMAND does; so do --help and -h
 
 --version and -V write the version.
-Exit status: 0 done; 1 a fault, or a trace that breaks a law; 2 no command line.
+Exit status: 0 done; 1 a fault, a trace that breaks a law, or a question that
+doesn't come out as asked; 2 no command line; 3 not all orders were seen.
 Example: echo events | automount_cli world
 "
 }
@@ -144,6 +144,31 @@ Example: echo '!reset' | automount_cli serve
 "
 }
 
+fn explore_help() -> &'static [u8]
+    ensures { result.now ≡ explore_help }
+{
+    b"Usage: automount_cli explore [--most N] < SCENE
+
+Reads a scene, whole: a script, and behind its events threads and questions.
+Tries all orders in which the threads' events can come, and writes for each
+question whether some order meets it, with the events of a shortest one.
+
+  thread NAME .. end     the events of a thread, a line each, in their order
+  serve daemon [fail N]  the daemon takes part; its acts may fail with error N
+  sometimes, never       before what is asked: NAME waiting, that this thread
+                         waits without end; or NAME N ANSWER, that its event
+                         number N is answered so
+
+Options:
+  --most N    the most states that one search looks at; 1000000 if left out
+  -h, --help  write this
+
+Exit status: 0 each came out as asked, by an order or by none; 1 one didn't, or
+a fault, told on standard error; 3 else, where a search was cut.
+Example: automount_cli explore --most 5000 < FILE
+"
+}
+
 fn judge_help() -> &'static [u8]
     ensures { result.now ≡ judge_help }
 {
@@ -224,6 +249,7 @@ pub(crate) fn help_text(topic: Option<Topic>) -> &'static [u8]
         Some(Topic::Draw) => draw_help(),
         Some(Topic::World) => world_help(),
         Some(Topic::Serve) => serve_help(),
+        Some(Topic::Explore) => explore_help(),
         Some(Topic::Judge) => judge_help(),
         Some(Topic::Import) => import_help(),
         Some(Topic::Threads) => threads_help(),
@@ -239,6 +265,7 @@ pub(crate) fn usage() -> &'static [u8]
        automount_cli trace [--plain] < FILE
        automount_cli draw [--from N] [--to N] < FILE
        automount_cli world [--namespace N] < FILE
+       automount_cli explore [--most N] < FILE
        automount_cli threads [--walkers N] [--workers N] [--rounds N]
        automount_cli help [COMMAND]
        automount_cli --version

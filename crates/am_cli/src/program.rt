@@ -5,7 +5,7 @@ ghost use Rattle.std.specs.List.{flat_map};
 ghost use Rattle.am_runner.specs.{IsTally};
 ghost use Rattle.clap.specs.Words.{Text};
 ghost use Rattle.am_recall.specs.declared.recalled.Recalled.{Recalled};
-ghost use Rattle.am_cli.specs.Program.{Exits, ExitsWith, SaysWhole, status_of_verdict, style_of, TellsRefusal};
+ghost use Rattle.am_cli.specs.Program.{Exits, ExitsWith, SaysWhole, status_of_findings, status_of_verdict, style_of, TellsRefusal};
 ghost use Rattle.am_cli.specs.Args.{fault_number, IsInRange};
 ghost use Rattle.am_cli.specs.declared.args.Args.TheVariants as asks;
 
@@ -13,10 +13,12 @@ use crate::args::{Args, ArgsFault, read_args};
 use crate::help::{help_text, version};
 use crate::hints::hint_for;
 use crate::telling::{
-    tell_fault, tell_import, tell_judge, tell_script, tell_usage, tell_word, write_parts,
+    tell_explore, tell_fault, tell_import, tell_judge, tell_script, tell_usage, tell_word,
+    write_parts,
 };
 use crate::topics::Topic;
 use am_draw::draw_script;
+use am_findings::{Verdict as Findings, explore_scene};
 use am_import::import;
 use am_mountinfo::world_script;
 use am_names::NsId;
@@ -33,9 +35,10 @@ use std::io::{self, Read, Write};
 use std::sync::Wait;
 use std::thread::Threads;
 
-/// Runs the program and answers its exit status: 0 done, 1 a fault, or a trace that breaks a law, 2 a bad command line. A fault
-/// is told on the last stream, as far as that takes it; the status tells it too. Below the fault of a script stands what the
-/// reader recalls of it.
+/// Runs the program and answers its exit status: 0 done, 1 a fault, a trace that breaks a law, or a question that comes
+/// out otherwise than asked, 2 a bad command line, 3 where none does, and a search was cut. A fault is told on the last
+/// stream, as far as that takes it; the status tells it too. Below the fault of a script stands what the reader recalls
+/// of it.
 pub fn run_program<T: Threads + Wait + Sync, R: Read, W: Write, E: Write>(
     rt: &T,
     alloc: Global,
@@ -74,6 +77,9 @@ fn run_asked<T: Threads + Wait + Sync, R: Read, W: Write, E: Write>(
         Args::Trace { plain } => trace(alloc, plain, reader, writer, errors),
         Args::Draw { first, last } => draw(alloc, first, last, reader, writer, errors),
         Args::Serve => serve_lines(alloc, &mut reader.reader, writer, errors),
+        Args::Explore { most } => {
+            explore_orders(alloc, most, &mut reader.reader, writer, errors)
+        }
         Args::Judge => judge(alloc, &mut reader.reader, writer, errors),
         Args::Import => import_mounts(alloc, &mut reader.reader, writer, errors),
         Args::World { namespace } => show(alloc, reader, writer, errors, namespace),
@@ -246,6 +252,39 @@ fn serve_lines<R: Read, W: Write, E: Write>(
         Ok(()) => 0,
         Err(fault) => {
             tell_script(errors, fault, b"");
+            1
+        }
+    }
+}
+
+/// The exit status of how the questions of a scene come out.
+fn status_of_findings(findings: Findings) -> u8
+    ensures { result ≡ status_of_findings findings }
+{
+    match findings {
+        Findings::AsAsked => 0,
+        Findings::NotAsAsked => 1,
+        Findings::NotAllSeen => 3,
+    }
+}
+
+/// Explores all orders of the scene that the reader gives; each search looks at so many states at most.
+fn explore_orders<R: Read, W: Write, E: Write>(
+    alloc: Global,
+    most: u32,
+    reader: &mut R,
+    writer: &mut W,
+    errors: &mut E,
+) -> u8
+    ensures { (recalled : Recalled) → Exits (asks.Explore most) recalled (R.remaining reader.old)
+        (R.remaining reader.new)
+        (W.contents writer.old) (W.contents writer.new) (E.contents errors.old)
+        (E.contents errors.new) result }
+{
+    match explore_scene(alloc, u64::from(most), reader, writer) {
+        Ok(findings) => status_of_findings(findings),
+        Err(fault) => {
+            tell_explore(errors, fault);
             1
         }
     }

@@ -4,14 +4,16 @@ ghost use Rattle.std.specs.Prelude.{◌≡◌, true, false};
 ghost use Rattle.std.specs.List.{flat_map};
 ghost use Rattle.std.specs.Io.KnownBytes.{Appends};
 ghost use Rattle.am_cli.specs.Hints.{hint_told, usage_told};
-ghost use Rattle.am_cli.specs.Telling.{import_told, IsCut, judge_told, line_told, mount_words, place_told, script_told, Tells, TellsFault, trace_words, word_told};
+ghost use Rattle.am_cli.specs.Telling.{explore_told, import_told, IsCut, judge_told, line_told, mount_words, place_told, scene_told, scene_word, script_told, Tells, TellsFault, trace_words, word_told};
 
 use crate::help::usage;
 use crate::hints::Hint;
 use am_explain::help;
+use am_findings::ExploreFault;
 use am_import::ImportFault;
 use am_mount_lines::Expected as MountExpected;
 use am_recall::Recalled;
+use am_scenes::{SceneFault, SceneFaultKind};
 use am_script::ScriptFault;
 use am_script::output::write_bytes;
 use am_serve::kind_word;
@@ -154,6 +156,46 @@ pub(crate) fn tell_fault<E: Write>(
 {
     let below = help(alloc, recalled, fault);
     tell_script(errors, fault, &below);
+}
+
+fn scene_word(kind: SceneFaultKind) -> &'static str
+    ensures { result.now ≡ scene_word kind }
+{
+    match kind {
+        SceneFaultKind::Script { kind } => kind_word(kind),
+        SceneFaultKind::NoEvents => "NoEvents",
+        SceneFaultKind::BadLine => "BadLine",
+        SceneFaultKind::LateLine => "LateLine",
+        SceneFaultKind::BadThread => "BadThread",
+        SceneFaultKind::ThreadTwice => "ThreadTwice",
+        SceneFaultKind::NoEnd => "NoEnd",
+        SceneFaultKind::BadThreadEvent => "BadThreadEvent",
+        SceneFaultKind::BadService => "BadService",
+        SceneFaultKind::ServiceTwice => "ServiceTwice",
+        SceneFaultKind::BadQuestion => "BadQuestion",
+        SceneFaultKind::NoSuchThread => "NoSuchThread",
+        SceneFaultKind::NoSuchEvent => "NoSuchEvent",
+        SceneFaultKind::BadAnswer => "BadAnswer",
+        SceneFaultKind::NoMemory => "NoMemory",
+    }
+}
+
+/// Tells why a text is no scene.
+fn tell_scene<E: Write>(errors: &mut E, fault: SceneFault)
+    ensures { Tells (E.contents errors.old) (E.contents errors.new) (scene_told fault) }
+{
+    tell_line(errors, fault.line, scene_word(fault.kind), b"");
+}
+
+/// Tells why a scene isn't explored, or what was found isn't written.
+pub(crate) fn tell_explore<E: Write>(errors: &mut E, fault: ExploreFault)
+    ensures { Tells (E.contents errors.old) (E.contents errors.new) (explore_told fault) }
+{
+    match fault {
+        ExploreFault::Scene { fault } => tell_scene(errors, fault),
+        ExploreFault::NoMemory => tell_word(errors, "NoMemory"),
+        ExploreFault::WriteFailed => tell_word(errors, "WriteFailed"),
+    }
 }
 
 /// Tells why a verdict isn't written.

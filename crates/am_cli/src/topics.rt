@@ -11,6 +11,7 @@ pub enum Topic {
     Draw,
     World,
     Serve,
+    Explore,
     Judge,
     Import,
     Threads,
@@ -18,12 +19,13 @@ pub enum Topic {
 }
 
 /// All commands, in the order of help.
-pub(crate) static TOPICS: [Topic; 9] = [
+pub(crate) static TOPICS: [Topic; 10] = [
     Topic::Script,
     Topic::Trace,
     Topic::Draw,
     Topic::World,
     Topic::Serve,
+    Topic::Explore,
     Topic::Judge,
     Topic::Import,
     Topic::Threads,
@@ -41,6 +43,7 @@ impl Topic {
             Topic::Draw => "draw",
             Topic::World => "world",
             Topic::Serve => "serve",
+            Topic::Explore => "explore",
             Topic::Judge => "judge",
             Topic::Import => "import",
             Topic::Threads => "threads",
@@ -58,6 +61,7 @@ impl Topic {
             Topic::Draw => true,
             Topic::World => true,
             Topic::Serve => true,
+            Topic::Explore => true,
             Topic::Judge => true,
             Topic::Import => true,
             Topic::Threads => false,
@@ -75,6 +79,7 @@ impl Topic {
             Topic::Draw => "script",
             Topic::World => "script",
             Topic::Serve => "session",
+            Topic::Explore => "scene",
             Topic::Judge => "trace",
             Topic::Import => "mountinfo",
             Topic::Threads => "nothing",
@@ -107,6 +112,9 @@ pub(crate) fn topic_named(word: &str) -> Option<Topic>
     }
     if is_word(word, "serve") {
         return Some(Topic::Serve);
+    }
+    if is_word(word, "explore") {
+        return Some(Topic::Explore);
     }
     if is_word(word, "judge") {
         return Some(Topic::Judge);

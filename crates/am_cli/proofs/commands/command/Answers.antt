@@ -1,5 +1,6 @@
 use Rattle.std.proofs.lemmas.Result.{IfOk-weaker}
-use Rattle.am_cli.specs.{IsCommand, script_app, trace_app, draw_app, world_app, serve_app, judge_app, import_app, threads_app, help_app}
+use Rattle.am_cli.specs.{IsCommand, script_app, trace_app, draw_app, world_app, serve_app, explore_app, judge_app}
+use Rattle.am_cli.specs.{import_app, threads_app, help_app}
 use Rattle.clap.specs.Words.{App}
 use Rattle.clap.specs.declared.builder.command.Command.{Command}
 use Rattle.am_cli.proofs.CommandLemmas.{adds}
@@ -14,9 +15,11 @@ returns c =
     let four = adds _ _ _ _ world_app three c.in_ok-world_command.ensures c.in_ok-subcommand-4.ensures in
     let serve : IsCommand serve_app c.new-2.result = record { shape = c.new-2.ensures.app; local = c.new-2.ensures.local } in
     let five = adds _ _ _ _ serve_app four serve c.in_ok-subcommand-5.ensures in
+    let six = adds _ _ _ _ explore_app five c.in_ok-explore_command.ensures c.in_ok-subcommand-6.ensures in
     let judge : IsCommand judge_app c.new-3.result = record { shape = c.new-3.ensures.app; local = c.new-3.ensures.local } in
-    let six = adds _ _ _ _ judge_app five judge c.in_ok-subcommand-6.ensures in
+    let seven = adds _ _ _ _ judge_app six judge c.in_ok-subcommand-7.ensures in
     let imports : IsCommand import_app c.new-4.result = record { shape = c.new-4.ensures.app; local = c.new-4.ensures.local } in
-    let seven = adds _ _ _ _ import_app six imports c.in_ok-subcommand-7.ensures in
-    let eight = adds _ _ _ _ threads_app seven c.in_ok-threads_command.ensures c.in_ok-subcommand-8.ensures in
-    IfOk-weaker c.subcommand-9.result _ _ (λ all added. adds _ _ all _ help_app eight c.in_ok-help_command.ensures added) c.subcommand-9.ensures
+    let eight = adds _ _ _ _ import_app seven imports c.in_ok-subcommand-8.ensures in
+    let nine = adds _ _ _ _ threads_app eight c.in_ok-threads_command.ensures c.in_ok-subcommand-9.ensures in
+    IfOk-weaker c.subcommand-10.result _ _
+    (λ all added. adds _ _ all _ help_app nine c.in_ok-help_command.ensures added) c.subcommand-10.ensures

@@ -1,0 +1,109 @@
+//! What was found, as a text.
+
+ghost use Rattle.std.specs.Prelude.{◌≡◌, ◌++◌, decimal, OnOk};
+ghost use Rattle.am_findings.specs.Texts.{asked_part, count_text, finding_text, found_order_text, order_text, tally_text};
+
+use am_explore::{Choice, Found, Seen, Tally};
+use am_scenes::Asked;
+use am_views::event_text::push_event;
+use itoa::Buffer;
+use std::alloc::AllocError;
+
+/// Adds a number.
+fn push_number(text: &mut Vec<u8>, number: u64) -> Result<(), AllocError>
+    ensures { OnOk result (text.new.items ≡ text.old.items ++ decimal number) }
+{
+    let mut digits = Buffer::new();
+    text.extend_from_slice(digits.format(number).as_bytes())?;
+    Ok(())
+}
+
+/// Adds how many there are.
+fn push_length(text: &mut Vec<u8>, length: usize) -> Result<(), AllocError>
+    ensures { OnOk result (text.new.items ≡ text.old.items ++ decimal length) }
+{
+    let mut digits = Buffer::new();
+    text.extend_from_slice(digits.format(length).as_bytes())?;
+    Ok(())
+}
+
+/// Adds which question it is.
+fn push_asked(text: &mut Vec<u8>, asked: &Asked) -> Result<(), AllocError>
+    ensures { OnOk result (text.new.items ≡ text.old.items ++ asked_part asked.now) }
+{
+    text.extend_from_slice(b"# line ")?;
+    push_number(text, asked.line)
+}
+
+/// Adds the events of an order, each as its line of a script.
+fn push_order(text: &mut Vec<u8>, choices: &[Choice]) -> Result<(), AllocError>
+    ensures { OnOk result (text.new.items ≡ text.old.items ++ order_text choices.now) }
+{
+    for choice in choices {
+        push_event(text, &choice.event)?;
+        text.push(b'\n')?;
+    }
+    Ok(())
+}
+
+/// Adds how many events an order has, and these.
+fn push_found_order(text: &mut Vec<u8>, choices: &[Choice]) -> Result<(), AllocError>
+    ensures { OnOk result (text.new.items ≡ text.old.items ++ found_order_text choices.now) }
+{
+    text.extend_from_slice(b": yes, events ")?;
+    push_length(text, choices.len())?;
+    text.push(b'\n')?;
+    push_order(text, choices)
+}
+
+/// Adds what was found of a question.
+pub(crate) fn push_finding(
+    text: &mut Vec<u8>,
+    asked: &Asked,
+    found: &Found,
+) -> Result<(), AllocError>
+    ensures { OnOk result (text.new.items ≡ text.old.items ++ finding_text asked.now found.now) }
+{
+    push_asked(text, asked)?;
+    match found {
+        Found::Order {
+            choices,
+            answers: _,
+        } => push_found_order(text, choices.as_slice()),
+        Found::Never => {
+            text.extend_from_slice(b": no order\n")?;
+            Ok(())
+        }
+        Found::Cut => {
+            text.extend_from_slice(b": not all seen\n")?;
+            Ok(())
+        }
+    }
+}
+
+/// Adds what a search of all orders has met, if it came to its end.
+fn push_tally(text: &mut Vec<u8>, tally: &Tally) -> Result<(), AllocError>
+    ensures { OnOk result (text.new.items ≡ text.old.items ++ tally_text tally.now) }
+{
+    text.extend_from_slice(b"# orders ")?;
+    push_number(text, tally.orders)?;
+    text.extend_from_slice(b" states ")?;
+    push_number(text, tally.states)?;
+    text.extend_from_slice(b" ends ")?;
+    push_number(text, tally.ends)?;
+    text.push(b'\n')?;
+    Ok(())
+}
+
+/// Adds what a search of all orders has met.
+pub(crate) fn push_count(text: &mut Vec<u8>, seen: &Seen) -> Result<(), AllocError>
+    ensures { OnOk result (text.new.items ≡ text.old.items ++ count_text seen.now) }
+{
+    if let Found::Cut = seen.found {
+        text.extend_from_slice(b"# not all seen, states ")?;
+        push_number(text, seen.tally.states)?;
+        text.push(b'\n')?;
+        return Ok(());
+    }
+    push_tally(text, &seen.tally)
+}

@@ -1,0 +1,5 @@
+pub mod LineLemmas
+pub mod SceneLemmas
+pub mod ServiceLemmas
+pub mod TextLemmas
+pub mod WayLemmas

@@ -1,0 +1,55 @@
+//! Numbers as scripts write them.
+
+ghost use Rattle.std.specs.Prelude.{◌≡◌, false, true, IfNone, IfSome};
+ghost use Rattle.am_script.specs.Numbers.{is_numeral, u8_read, u32_read, u64_read};
+
+use am_lines::are_digits;
+use std::str;
+
+/// A number that fits 8 bits, in the form of the next.
+pub(crate) fn read_u8(digits: &[u8]) -> Option<u8>
+    ensures { result ≡ u8_read digits.now }
+{
+    numeral(digits)?.parse::<u8>().ok()
+}
+
+/// A number that fits 32 bits, in decimal, without sign or leading zeros.
+pub(crate) fn read_u32(digits: &[u8]) -> Option<u32>
+    ensures { result ≡ u32_read digits.now }
+{
+    numeral(digits)?.parse::<u32>().ok()
+}
+
+/// A number that fits 64 bits, in the same form.
+pub(crate) fn read_u64(digits: &[u8]) -> Option<u64>
+    ensures { result ≡ u64_read digits.now }
+{
+    numeral(digits)?.parse::<u64>().ok()
+}
+
+/// The text of a numeral.
+fn numeral(digits: &[u8]) -> Option<&str>
+    ensures none { IfNone result (is_numeral digits.now ≡ false) }
+    ensures some { IfSome result (λ text. (is_numeral digits.now ≡ true)
+        × (text.now ≡ digits.now)) }
+{
+    if !is_numeral(digits) {
+        return None;
+    }
+    match str::from_utf8(digits) {
+        Ok(text) => Some(text),
+        Err(_) => None,
+    }
+}
+
+fn is_numeral(digits: &[u8]) -> bool
+    ensures { result ≡ is_numeral digits.now }
+{
+    let [first, others @ ..] = digits else {
+        return false;
+    };
+    if !are_digits(digits) {
+        return false;
+    }
+    *first != b'0' || others.is_empty()
+}

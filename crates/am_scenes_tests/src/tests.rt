@@ -1,0 +1,6 @@
+//! Tables of scenes in and what is expected out, and one player.
+
+mod faults;
+mod orders;
+mod scenes;
+mod table;
