@@ -1,2 +1,3 @@
 pub mod FindLemmas
 pub mod ReadLemmas
+pub mod TextLemmas

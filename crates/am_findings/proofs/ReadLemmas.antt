@@ -1,17 +1,18 @@
 -- What was read, and what comes of it.
-use Rattle.std.proofs.Common.{◌≡◌, ℕ, ◌+◌, Bool, true, false, List, [], ◌∷◌, length, cond, Option, Some, None, Result}
+use Rattle.std.proofs.Common.{◌≡◌, ℕ, ◌+◌, Bool, true, false, List, [], ◌∷◌, drop, length, cond, Option, Some, None}
+use Rattle.std.proofs.Common.{Result}
 use Rattle.std.proofs.Common.{Ok, Err, IfOk, IfErr, IfNone, IfSome, refl}
 use Rattle.std.specs.Io.KnownBytes.{Consumes, IsAtEnd}
 use Rattle.am_machine.specs.{Event, Setup}
-use Rattle.am_script.specs.{IsReadFault, ScriptFault, ScriptFaultKind, broken, line_read, lines_of, played, script_of}
+use Rattle.am_script.specs.{IsReadFault, ScriptFault, ScriptFaultKind, line_read, lines_of, played, script_of}
 use Rattle.am_script.specs.Read.{cut_kind, cut_line}
 use Rattle.am_scenes.specs.{IsScene, NoScene, SceneFault, SceneFaultKind, SceneSoFar, Told, after_line, begins_scene}
 use Rattle.am_scenes.specs.{nothing_said, scene_from, scene_of, so_far_of, way_from}
-use Rattle.am_scenes.specs.SceneLines.{goes_on, scene_ends}
+use Rattle.am_scenes.specs.SceneLines.{goes_on}
 use Rattle.am_scenes.specs.SceneText.{behind_head}
 use Rattle.am_scenes.specs.Way.{Way, only_scene, way_by}
 use Rattle.am_views.proofs.WholeInputs.{was_read}
-use Rattle.am_findings.specs.{ExploreFault, ExploresInput, IsUntold, StopsExploring, Verdict}
+use Rattle.am_findings.specs.{ExploreFault, ExploresInput, StopsExploring, Verdict}
 use Rattle.am_findings.specs.Explored.{IsNoScene, IsNotWritten, IsWritten, Reads}
 use Rattle.am_findings.specs.declared.explore.ExploreFault.TheVariants as faults
 
@@ -55,7 +56,7 @@ way_broken kind before (line ∷ lines) so e =
 head_broken : (opening : Option Setup) (number : Option ℕ) (fault : Option ScriptFault) (kind : ScriptFaultKind)
     (lines : List (List ℕ)) (so : SceneSoFar) → (behind_head opening number fault (Some kind) lines).way.scene ≡ Ok so
     → ⊥
-head_broken (Some opening) (Some number) fault kind lines so e = way_broken kind number _ so e
+head_broken (Some opening) (Some number) fault kind lines so e = way_broken kind number (drop number lines) so e
 head_broken (Some opening) None fault kind lines so e = absurd cc
 head_broken None number fault kind lines so e = absurd cc
 

@@ -1,5 +1,5 @@
 -- How questions come out: own choice (docs/FORMATS.md, "Findings").
-use Rattle.std.specs.Prelude.{List, [], ◌∷◌}
+use Rattle.std.specs.Prelude.{List, ◌∷◌}
 use Rattle.am_explore.specs.{Found, Seen}
 use Rattle.am_explore.specs.declared.search.Found.TheVariants as founds
 use Rattle.am_scenes.specs.{Asked, Claim}

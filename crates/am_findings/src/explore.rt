@@ -29,7 +29,7 @@ pub enum ExploreFault {
 
 /// What was found of a scene, and how its questions come out.
 #[derive(Drop)]
-pub struct Findings {
+struct Findings {
     verdict: Verdict,
     text: Vec<u8>,
 }

@@ -1,4 +1,4 @@
-use Rattle.std.proofs.Common.{◌≡◌, ◌+◌, ◌∷◌, List, drop, ap, subst, sym, ◌∙◌}
+use Rattle.std.proofs.Common.{◌≡◌, ◌+◌, ◌∷◌, drop, ap, subst, sym, ◌∙◌}
 use Rattle.std.proofs.lemmas.List.{drop_all, drop_more}
 use Rattle.am_scenes.specs.{Asked}
 use Rattle.am_findings.specs.{Verdict}
@@ -19,7 +19,7 @@ loop-asked-preserved c =
     let next = c.answer_one.new.text.items in
     let here : drop i all ≡ asked ∷ drop (i + 1) all = drop_more all i asked c.loop-asked-test.true
     ∙ ap (λ (a : Asked). a ∷ drop (i + 1) all) (sym c.asked-item.is) in
-    subst (λ (v : Verdict). AreLeft told most (drop (i + 1) all) all old next v) (sym c.joined.ensures)
+    subst (λ (v : Verdict). AreLeft told most (drop (i + 1) all) all old next v) (sym c.joined-verdict.ensures)
     (one_more told most asked (drop i all) (drop (i + 1) all) all old c.loop-asked.text.items next c.loop-asked.verdict
     c.in_ok-one.one here c.loop-asked.invariant c.in_ok-one.ensures)
 

@@ -23,8 +23,8 @@ returns-in-Ok-clause-err g c =
     stops c.args.most input rest (contents c.args.writer.now) (contents c.tell.new.writer) c.in-Ok.told c.tell.result
     told c.tell.ensures.err
 
-pub returns-in-Err-clause-err : goal.returns-in-Err-clause-err
-returns-in-Err-clause-err g c =
+pub returns-clause-err : goal.returns-clause-err
+returns-clause-err g c =
     let reads = g.R.Read.remaining in
     let contents = g.W.Write.contents in
     no_scene (reads c.args.reader.now) (reads c.read_all-input.new.reader) (contents c.args.writer.now)
