@@ -12,6 +12,7 @@ use Rattle.am_explore.specs.declared.standing.Heard.{Heard}
 use Rattle.am_explore.specs.Answers.{is_refused, is_wait}
 use Rattle.am_explore.specs.Standings.{Standing}
 use Rattle.am_explore.specs.Orders.{Stand}
+use Rattle.am_explore.specs.WorldLines.{TextHas}
 
 -- a walk has arrived
 abbrev pub is_at : Answer → Bool
@@ -47,3 +48,5 @@ Meets scene (questions.Answered thread event sought) a =
     IsSomeAnd (slice_get a.threads thread) (λ (s : Standing). HasAnswer event sought s.heard)
 Meets scene (questions.Waiting thread) a =
     IsSomeAnd (slice_get a.threads thread) (λ (s : Standing). IsSomeAnd (slice_get scene.threads.items thread) (λ (events : List Event). HasLeft events s))
+Meets scene (questions.Shows line) a = TextHas line.items a.state true
+Meets scene (questions.Lacks line) a = TextHas line.items a.state false

@@ -14,6 +14,7 @@ use crate::choice::{Choice, Who};
 use crate::question::{Question, has_answered, is_waiting};
 use crate::scene::{Scene, Service, Thread};
 use crate::standing::{Progress, are_same_standings, first_standings, moved, standings_again};
+use crate::world_line::text_has;
 use am_job::Job;
 use am_machine::{Answer, Event};
 use am_names::{FailNo, JobId, Token};
@@ -255,9 +256,15 @@ impl Begun {
             && self.world.is_same(&other.world)
     }
 
-    /// Whether the question is met here, at an end.
-    pub fn meets(&self, scene: &Scene, question: &Question) -> bool
-        ensures { IsTrue result ↔ Meets scene.now question.now (stand_of self.now) }
+    /// Whether the question is met here, at an end. One on the world's text takes memory for that.
+    pub fn meets(
+        &self,
+        alloc: Global,
+        scene: &Scene,
+        question: &Question,
+    ) -> Result<bool, AllocError>
+        ensures { IfOk result
+            (λ met. IsTrue met ↔ Meets scene.now question.now (stand_of self.now)) }
     {
         let standings = self.threads.as_slice();
         match question {
@@ -265,10 +272,12 @@ impl Begun {
                 thread,
                 event,
                 sought,
-            } => has_answered(standings, *thread, *event, sought),
+            } => Ok(has_answered(standings, *thread, *event, sought)),
             Question::Waiting { thread } => {
-                is_waiting(scene.threads.as_slice(), standings, *thread)
+                Ok(is_waiting(scene.threads.as_slice(), standings, *thread))
             }
+            Question::Shows { line } => text_has(alloc, &self.world, line.as_slice()),
+            Question::Lacks { line } => Ok(!text_has(alloc, &self.world, line.as_slice())?),
         }
     }
 }

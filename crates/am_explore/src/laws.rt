@@ -1,6 +1,6 @@
 //! Laws: what is true of the orders of every scene.
 
-ghost use Rattle.am_explore.specs.Cuts.{AreCut, PartsTellNever};
+ghost use Rattle.am_explore.specs.Cuts.{AreCut, HaveNumbers, PartsTellFirst, PartsTellNever};
 
 /// A search can be cut: an order is one of its first choices, and one from where they lead. So what is
 /// explored from all stands that as many choices lead to are all orders that are as long or longer.
@@ -12,4 +12,16 @@ pub fn orders_are_cut()
 /// the beginning is no end that does, so no order from there does.
 pub fn parts_tell_never()
     ensures { PartsTellNever }
+{}
+
+/// What is found first in the parts is found first: where each first step leads to where a shortest order has at least
+/// so many steps, and the beginning is no end that meets the question, a shortest one from there has one more at least.
+pub fn parts_tell_first()
+    ensures { PartsTellFirst }
+{}
+
+/// The parts are all: each order is named by the numbers of its choices, as `lead` takes them, and such numbers name
+/// orders alone.
+pub fn orders_have_numbers()
+    ensures { HaveNumbers }
 {}

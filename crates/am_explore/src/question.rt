@@ -43,6 +43,15 @@ pub enum Question {
     Waiting {
         thread: usize,
     },
+    /// The world's text, as `am_mountinfo` writes it of all namespaces, has a line of these words, one by one, of which
+    /// `*` is any word.
+    Shows {
+        line: Vec<u8>,
+    },
+    /// It has no such line.
+    Lacks {
+        line: Vec<u8>,
+    },
 }
 
 /// Whether a walk has arrived.

@@ -14,6 +14,8 @@ use crate::choice::{self, Choice};
 use crate::level::{Level, Node, child_of};
 use crate::question::Question;
 use crate::scene::Scene;
+use crate::watch::Watch;
+use crate::worlds::Worlds;
 use am_machine::Answer;
 use am_world::World;
 use std::alloc::{AllocError, Global};
@@ -44,6 +46,8 @@ pub struct Tally {
     pub ends: u64,
     /// Choices that were tried, those that are no step among them.
     pub steps: u64,
+    /// Worlds at these ends, each once, told apart by their halves.
+    pub worlds: u64,
 }
 
 /// What came of a search.
@@ -79,6 +83,7 @@ pub struct Ahead {
     next: Level,
     tally: Tally,
     most: u64,
+    worlds: Worlds,
 }
 
 /// Makes one choice of a state, to which so many orders lead.
@@ -140,7 +145,7 @@ fn look(
         }
     }
     if is_end {
-        ahead.tally.count_end(orders);
+        ahead.count_end(alloc, node.begun.world(), orders)?;
         return Ok(Looked::End);
     }
     Ok(Looked::GoesOn)
@@ -157,12 +162,13 @@ fn order_to(alloc: Global, node: &Node) -> Result<Found, AllocError>
 }
 
 /// Makes all choices of all states of a level. What is found ends the search.
-fn turn(
+fn turn<P: Watch>(
     alloc: Global,
     scene: &Scene,
     question: &Question,
     level: &Level,
     ahead: &mut Ahead,
+    watch: &mut P,
 ) -> Result<Option<Found>, AllocError>
     requires bound { ahead.old.tally.states ≤ ahead.old.most }
     requires empty { ahead.old.next.nodes.items ≡ [] }
@@ -178,11 +184,12 @@ fn turn(
 {
     for (index, node) in level.nodes.iter().enumerate() {
         let orders = level.orders_at(index);
+        watch.saw(&ahead.tally);
         match look(alloc, scene, node, orders, ahead)? {
             Looked::Cut => return Ok(Some(Found::Cut)),
             Looked::GoesOn => {}
             Looked::End => {
-                if node.begun.meets(scene, question) {
+                if node.begun.meets(alloc, scene, question)? {
                     return Ok(Some(order_to(alloc, node)?));
                 }
             }
@@ -191,13 +198,18 @@ fn turn(
     Ok(None)
 }
 
-impl Tally {
-    /// One more end, to which so many orders lead.
-    fn count_end(&mut self, orders: u64)
-        ensures { self.new.states ≡ self.old.states }
+impl Ahead {
+    /// One more end, with this world, to which so many orders lead.
+    fn count_end(&mut self, alloc: Global, world: &World, orders: u64) -> Result<(), AllocError>
+        ensures states { self.new.tally.states ≡ self.old.tally.states }
+        ensures next { self.new.next ≡ self.old.next }
+        ensures most { self.new.most ≡ self.old.most }
     {
-        self.ends = self.ends.saturating_add(1);
-        self.orders = self.orders.saturating_add(orders);
+        self.worlds.add(alloc, world)?;
+        self.tally.ends = self.tally.ends.saturating_add(1);
+        self.tally.orders = self.tally.orders.saturating_add(orders);
+        self.tally.worlds = self.worlds.count();
+        Ok(())
     }
 }
 
@@ -223,11 +235,12 @@ impl Search {
     }
 
     /// Goes down level by level, until something is found or no state is left.
-    fn run(
+    fn run<P: Watch>(
         &mut self,
         alloc: Global,
         scene: &Scene,
         question: &Question,
+        watch: &mut P,
     ) -> Result<Found, AllocError>
         requires bound { self.old.ahead.tally.states ≤ self.old.ahead.most }
         requires empty { self.old.ahead.next.nodes.items ≡ [] }
@@ -239,7 +252,8 @@ impl Search {
             (λ found. IsTallied self.new.ahead.most found self.new.ahead.tally) }
     {
         loop {
-            if let Some(found) = turn(alloc, scene, question, &self.level, &mut self.ahead)? {
+            let came = turn(alloc, scene, question, &self.level, &mut self.ahead, watch)?;
+            if let Some(found) = came {
                 return Ok(found);
             }
             if self.ahead.next.nodes.is_empty() {
@@ -279,24 +293,32 @@ fn search_of(alloc: Global, start: &Begun, most: u64) -> Result<Search, AllocErr
         states: 1,
         ends: 0,
         steps: 0,
+        worlds: 0,
     };
+    let worlds = Worlds::new(alloc)?;
     Ok(Search {
         level,
-        ahead: Ahead { next, tally, most },
+        ahead: Ahead {
+            next,
+            tally,
+            most,
+            worlds,
+        },
     })
 }
 
 /// Explores all orders from where a scene stands that has begun, as from where the first choices of an
 /// order lead: a shortest order to an end that meets the question is found, or that there is none. No
 /// more than so many states are looked at. Of all orders of one length, those that lead to the same
-/// state, but for what was observed, and with the same answers to each thread, are followed as one. Out
-/// of memory is the one error.
-pub fn explore_from(
+/// state, but for what was observed, and with the same answers to each thread, are followed as one. Who
+/// watches is told before each state how far it is. Out of memory is the one error.
+pub fn explore_from<P: Watch>(
     alloc: Global,
     scene: &Scene,
     start: &Begun,
     question: &Question,
     most: u64,
+    watch: &mut P,
 ) -> Result<Seen, AllocError>
     ensures found { IfOk result
         (λ seen. IsFound scene.now question.now (stand_of start.now) seen.found) }
@@ -306,7 +328,7 @@ pub fn explore_from(
         return Ok(nothing_seen());
     }
     let mut search = search_of(alloc, start, most)?;
-    let found = search.run(alloc, scene, question)?;
+    let found = search.run(alloc, scene, question, watch)?;
     Ok(Seen {
         found,
         tally: search.ahead.tally,
@@ -322,6 +344,7 @@ fn nothing_seen() -> Seen
         states = 0;
         ends = 0;
         steps = 0;
+        worlds = 0;
       };
     }) }
 {
@@ -332,22 +355,24 @@ fn nothing_seen() -> Seen
             states: 0,
             ends: 0,
             steps: 0,
+            worlds: 0,
         },
     }
 }
 
 /// Explores all orders of a scene that begins in this world, as `explore_from` does.
-pub fn explore(
+pub fn explore<P: Watch>(
     alloc: Global,
     world: &World,
     scene: &Scene,
     question: &Question,
     most: u64,
+    watch: &mut P,
 ) -> Result<Seen, AllocError>
     ensures found { IfOk result (λ seen. IsFound scene.now question.now
         (begun_at scene.now (state_of world.now)) seen.found) }
     ensures tally { IfOk result (λ seen. IsTallied most seen.found seen.tally) }
 {
     let start = begin(alloc, world, scene)?;
-    explore_from(alloc, scene, &start, question, most)
+    explore_from(alloc, scene, &start, question, most, watch)
 }

@@ -7,7 +7,7 @@ use crate::tests::scenes::{
     ADMINISTRATOR, DEATH, EXPIRY, FAILURES, Plan, THREE_WALKERS, TWO_KEYS, TWO_NAMESPACES,
     TWO_WALKERS, stage,
 };
-use am_explore::{Question, Tally, explore};
+use am_explore::{Question, Tally, Unwatched, explore};
 use am_names::Errno;
 use std::alloc::Global;
 use std::test::Fail;
@@ -18,7 +18,14 @@ pub const UNMET: Question = Question::Waiting { thread: 99 };
 /// What a search meets that sees all orders of a plan.
 fn tally_of(alloc: Global, plan: Plan) -> Result<Tally, Errno> {
     let staged = stage(alloc, plan)?;
-    let seen = explore(alloc, &staged.world, &staged.scene, &UNMET, u64::MAX)?;
+    let seen = explore(
+        alloc,
+        &staged.world,
+        &staged.scene,
+        &UNMET,
+        u64::MAX,
+        &mut Unwatched,
+    )?;
     Ok(seen.tally)
 }
 
@@ -30,6 +37,7 @@ fn two_namespaces(rt: HostRuntime) -> Result<(), Fail> {
         states: 59,
         ends: 10,
         steps: 116,
+        worlds: 0,
     };
     assert_eq!(rt; tally, all);
     Ok(())
@@ -43,6 +51,7 @@ fn expiry(rt: HostRuntime) -> Result<(), Fail> {
         states: 65,
         ends: 4,
         steps: 131,
+        worlds: 0,
     };
     assert_eq!(rt; tally, all);
     Ok(())
@@ -56,6 +65,7 @@ fn two_walkers(rt: HostRuntime) -> Result<(), Fail> {
         states: 52,
         ends: 3,
         steps: 106,
+        worlds: 0,
     };
     assert_eq!(rt; tally, all);
     Ok(())
@@ -69,6 +79,7 @@ fn three_walkers(rt: HostRuntime) -> Result<(), Fail> {
         states: 362,
         ends: 7,
         steps: 945,
+        worlds: 0,
     };
     assert_eq!(rt; tally, all);
     Ok(())
@@ -82,6 +93,7 @@ fn two_keys(rt: HostRuntime) -> Result<(), Fail> {
         states: 5_174,
         ends: 48,
         steps: 16_567,
+        worlds: 0,
     };
     assert_eq!(rt; tally, all);
     Ok(())
@@ -95,6 +107,7 @@ fn death(rt: HostRuntime) -> Result<(), Fail> {
         states: 31_555,
         ends: 826,
         steps: 101_130,
+        worlds: 0,
     };
     assert_eq!(rt; tally, all);
     Ok(())
@@ -108,6 +121,7 @@ fn failures(rt: HostRuntime) -> Result<(), Fail> {
         states: 6_942,
         ends: 213,
         steps: 20_242,
+        worlds: 0,
     };
     assert_eq!(rt; tally, all);
     Ok(())
@@ -121,6 +135,7 @@ fn administrator(rt: HostRuntime) -> Result<(), Fail> {
         states: 228,
         ends: 27,
         steps: 639,
+        worlds: 0,
     };
     assert_eq!(rt; tally, all);
     Ok(())

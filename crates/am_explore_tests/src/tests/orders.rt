@@ -4,7 +4,7 @@ use crate::tests::counts::UNMET;
 use crate::tests::scenes::{
     ADMINISTRATOR, EXPIRY, ONE_WALKER, Plan, Staged, TWO_NAMESPACES, stage,
 };
-use am_explore::{Choice, Found, Question, Sought, explore};
+use am_explore::{Choice, Found, Question, Sought, Unwatched, explore};
 use am_names::Errno;
 use am_world::{Answer, World};
 use std::alloc::Global;
@@ -40,9 +40,16 @@ fn events_of(alloc: Global, world: &mut World, found: &Found) -> Result<Option<u
 }
 
 /// How many events a shortest order of a plan has that meets the question, if one does.
-fn shortest(alloc: Global, plan: Plan, question: &Question) -> Result<Option<usize>, Errno> {
+pub fn shortest(alloc: Global, plan: Plan, question: &Question) -> Result<Option<usize>, Errno> {
     let mut staged = stage(alloc, plan)?;
-    let seen = explore(alloc, &staged.world, &staged.scene, question, u64::MAX)?;
+    let seen = explore(
+        alloc,
+        &staged.world,
+        &staged.scene,
+        question,
+        u64::MAX,
+        &mut Unwatched,
+    )?;
     events_of(alloc, &mut staged.world, &seen.found)
 }
 
@@ -124,7 +131,14 @@ fn a_walk_fails_in_some_order(rt: HostRuntime) -> Result<(), Fail> {
 
 /// How many states a search meets that looks at so many, where it was cut.
 fn cut_at(alloc: Global, staged: &Staged, most: u64) -> Result<Option<u64>, Errno> {
-    let seen = explore(alloc, &staged.world, &staged.scene, &UNMET, most)?;
+    let seen = explore(
+        alloc,
+        &staged.world,
+        &staged.scene,
+        &UNMET,
+        most,
+        &mut Unwatched,
+    )?;
     match &seen.found {
         Found::Cut => Ok(Some(seen.tally.states)),
         Found::Order { .. } | Found::Never => Ok(None),
@@ -147,7 +161,14 @@ fn a_search_is_cut_behind_so_many_states(rt: HostRuntime) -> Result<(), Fail> {
 fn arrival(alloc: Global) -> Result<Option<usize>, Errno> {
     let staged = stage(alloc, ONE_WALKER)?;
     let question = answered(0, 1, Sought::AnyAt);
-    let seen = explore(alloc, &staged.world, &staged.scene, &question, u64::MAX)?;
+    let seen = explore(
+        alloc,
+        &staged.world,
+        &staged.scene,
+        &question,
+        u64::MAX,
+        &mut Unwatched,
+    )?;
     match &seen.found {
         Found::Order { choices, .. } => Ok(Some(choices.len())),
         Found::Never | Found::Cut => Ok(None),

@@ -2,14 +2,14 @@
 
 use crate::tests::counts::UNMET;
 use crate::tests::scenes::{THREE_WALKERS, stage};
-use am_explore::{Begun, Choice, Scene, begin, choices, explore_from, make};
+use am_explore::{Begun, Choice, Led, Scene, Unwatched, begin, choices, explore_from, lead, make};
 use am_names::Errno;
 use std::alloc::Global;
 use std::test::Fail;
 
 /// How many orders there are from here.
 fn orders_from(alloc: Global, scene: &Scene, begun: &Begun) -> Result<u64, Errno> {
-    let seen = explore_from(alloc, scene, begun, &UNMET, u64::MAX)?;
+    let seen = explore_from(alloc, scene, begun, &UNMET, u64::MAX, &mut Unwatched)?;
     Ok(seen.tally.orders)
 }
 
@@ -84,5 +84,34 @@ fn parts_by_the_first_choice_are_the_whole(rt: HostRuntime) -> Result<(), Fail> 
 fn parts_by_two_choices_are_the_whole(rt: HostRuntime) -> Result<(), Fail> {
     let sum = by_two(rt.alloc())?;
     assert_eq!(rt; sum, 11_070);
+    Ok(())
+}
+
+/// How many orders begin with the choices of these numbers; none where that leads nowhere.
+fn orders_led(alloc: Global, numbers: &[u32]) -> Result<Option<u64>, Errno> {
+    let staged = stage(alloc, THREE_WALKERS)?;
+    let begun = begin(alloc, &staged.world, &staged.scene)?;
+    match lead(alloc, &staged.scene, &begun, numbers)? {
+        Led::Here { begun, .. } => Ok(Some(orders_from(alloc, &staged.scene, &begun)?)),
+        Led::NoStep => Ok(Some(0)),
+        Led::NoChoice { .. } => Ok(None),
+    }
+}
+
+#[test]
+fn numbers_lead_to_parts(rt: HostRuntime) -> Result<(), Fail> {
+    let mut sum = 0u64;
+    for number in 1..4 {
+        sum = sum.saturating_add(orders_led(rt.alloc(), &[number])?.unwrap_or(0));
+    }
+    let whole = orders_led(rt.alloc(), &[])?;
+    let missing = orders_led(rt.alloc(), &[4])?;
+    let behind = orders_led(rt.alloc(), &[1, 9])?;
+    let no_number = orders_led(rt.alloc(), &[0])?;
+    assert_eq!(rt; sum, 11_070);
+    assert_eq!(rt; whole, Some(11_070));
+    assert_eq!(rt; missing, None);
+    assert_eq!(rt; behind, None);
+    assert_eq!(rt; no_number, None);
     Ok(())
 }
