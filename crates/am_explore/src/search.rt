@@ -31,8 +31,11 @@ pub enum Found {
     },
     /// No order to an end meets the question.
     Never,
-    /// There were more states than the search was to look at.
-    Cut,
+    /// There were more states than the search was to look at. Of orders with fewer events than these all were seen, and
+    /// none meets the question.
+    Cut {
+        below: usize,
+    },
 }
 
 /// What a search has met until it ended: where it found an order, it ended there.
@@ -186,7 +189,11 @@ fn turn<P: Watch>(
         let orders = level.orders_at(index);
         watch.saw(&ahead.tally);
         match look(alloc, scene, node, orders, ahead)? {
-            Looked::Cut => return Ok(Some(Found::Cut)),
+            Looked::Cut => {
+                return Ok(Some(Found::Cut {
+                    below: node.choices.len(),
+                }));
+            }
             Looked::GoesOn => {}
             Looked::End => {
                 if node.begun.meets(alloc, scene, question)? {
@@ -338,7 +345,7 @@ pub fn explore_from<P: Watch>(
 /// What is seen where no state is to be looked at.
 fn nothing_seen() -> Seen
     ensures { result ≡ (record {
-      found = Found.Cut;
+      found = Found.Cut 0;
       tally = record {
         orders = 0;
         states = 0;
@@ -349,7 +356,7 @@ fn nothing_seen() -> Seen
     }) }
 {
     Seen {
-        found: Found::Cut,
+        found: Found::Cut { below: 0 },
         tally: Tally {
             orders: 0,
             states: 0,
