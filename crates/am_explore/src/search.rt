@@ -1,6 +1,6 @@
 //! The search of all orders, breadth first.
 
-ghost use Rattle.std.specs.Prelude.{◌≡◌, ◌≤◌, [], IfOk, IfSome, IfNone, OnOk};
+ghost use Rattle.std.specs.Prelude.{◌≡◌, ◌≤◌, [], length, IfOk, IfSome, IfNone, OnOk};
 ghost use Rattle.am_world.specs.Capacity.{state_of};
 ghost use Rattle.am_explore.specs.Findings.{IsFound, IsTallied, IsFull};
 ghost use Rattle.am_explore.specs.Levels.{node_stand, Counts, Grows, IsVisited, IsLooked, IsLevel, IsOrderTo};
@@ -164,6 +164,15 @@ fn order_to(alloc: Global, node: &Node) -> Result<Found, AllocError>
     })
 }
 
+/// What is found where a search is cut at a state: all orders were seen that are shorter than the one that leads there.
+fn cut_at(node: &Node) -> Found
+    ensures { result ≡ Found.Cut (length node.now.choices.items) }
+{
+    Found::Cut {
+        below: node.choices.len(),
+    }
+}
+
 /// Makes all choices of all states of a level. What is found ends the search.
 fn turn<P: Watch>(
     alloc: Global,
@@ -189,11 +198,7 @@ fn turn<P: Watch>(
         let orders = level.orders_at(index);
         watch.saw(&ahead.tally);
         match look(alloc, scene, node, orders, ahead)? {
-            Looked::Cut => {
-                return Ok(Some(Found::Cut {
-                    below: node.choices.len(),
-                }));
-            }
+            Looked::Cut => return Ok(Some(cut_at(node))),
             Looked::GoesOn => {}
             Looked::End => {
                 if node.begun.meets(alloc, scene, question)? {
