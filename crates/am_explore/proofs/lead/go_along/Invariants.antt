@@ -5,4 +5,5 @@ use Rattle.am_explore.proofs.lead.go_along.Given as goal
 
 abbrev pub invariant-loop-at : goal.invariant-loop-at
 invariant-loop-at l =
-    AreTaken l.scene (stand_of l.fn.way.begun) (take l.at l.numbers) l.way.choices.items l.way.answers.items (stand_of l.way.begun)
+    AreTaken l.scene (stand_of l.fn.way.begun) (take l.at l.numbers) l.way.choices.items l.way.answers.items
+    (stand_of l.way.begun)
