@@ -4,13 +4,13 @@
 use Rattle.std.specs.Prelude.{◌≡◌, ℕ, zero, suc, List, [], ◌∷◌, ◌++◌, Option, Some, None, take, slice_get}
 use Rattle.am_machine.specs.{Answer}
 use Rattle.am_explore.specs.declared.choice.Choice.{Choice}
-use Rattle.am_explore.specs.declared.lead.Along.{Along}
-use Rattle.am_explore.specs.declared.lead.Along.TheVariants as alongs
-use Rattle.am_explore.specs.declared.lead.Led.{Led}
-use Rattle.am_explore.specs.declared.lead.Led.TheVariants as leds
-use Rattle.am_explore.specs.declared.lead.Way.{Way}
-use Rattle.am_explore.specs.declared.lead.Went.{Went}
-use Rattle.am_explore.specs.declared.lead.Went.TheVariants as wents
+use Rattle.am_explore.specs.declared.led.Along.{Along}
+use Rattle.am_explore.specs.declared.led.Along.TheVariants as alongs
+use Rattle.am_explore.specs.declared.led.Led.{Led}
+use Rattle.am_explore.specs.declared.led.Led.TheVariants as leds
+use Rattle.am_explore.specs.declared.led.Way.{Way}
+use Rattle.am_explore.specs.declared.led.Went.{Went}
+use Rattle.am_explore.specs.declared.led.Went.TheVariants as wents
 use Rattle.am_explore.specs.declared.scene.Scene.{Scene}
 use Rattle.am_explore.specs.Levels.{IsNoStep}
 use Rattle.am_explore.specs.Orders.{IsMade, Stand, choices_at, stand_of}

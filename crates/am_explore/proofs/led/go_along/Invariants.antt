@@ -1,7 +1,7 @@
 use Rattle.std.proofs.Common.{take}
 use Rattle.am_explore.specs.Leads.{AreTaken}
 use Rattle.am_explore.specs.Orders.{stand_of}
-use Rattle.am_explore.proofs.lead.go_along.Given as goal
+use Rattle.am_explore.proofs.led.go_along.Given as goal
 
 abbrev pub invariant-loop-at : goal.invariant-loop-at
 invariant-loop-at l =
