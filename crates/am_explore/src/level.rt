@@ -9,7 +9,9 @@ use crate::answers;
 use crate::begun::{Begun, Made};
 use crate::choice::{self, Choice};
 use crate::standing::Progress;
+use am_job::{Act, Book, Job};
 use am_machine::Answer;
+use am_state::{Record, RecordRow};
 use std::alloc::{AllocError, Global};
 
 /// How many lists the states of a level are found in.
@@ -64,14 +66,53 @@ fn mark_of(progress: &Progress) -> u64 {
     sum
 }
 
+/// A number of a job that few others have.
+fn mark_of_job(job: &Job) -> u64 {
+    let act = match job.next() {
+        None => 0,
+        Some(Act::Mkdir { .. }) => 1,
+        Some(Act::Mount { .. }) => 2,
+        Some(Act::Umount { .. }) => 3,
+        Some(Act::Rmdir { .. }) => 4,
+        Some(Act::Record { .. }) => 5,
+        Some(Act::Reply { .. }) => 6,
+    };
+    mixed(job.job().0.into(), act)
+}
+
+/// A number of a record that few others have.
+fn mark_of_record(row: &RecordRow) -> u64 {
+    match row.entry {
+        Record::Mounting { token } => token.0.into(),
+        Record::Mounted { mount } => mount.0.wrapping_add(100),
+        Record::Unmounting { token, .. } => u64::from(token.0).wrapping_add(200),
+    }
+}
+
+/// A number of the daemon's book that few others have.
+fn mark_of_book(book: &Book) -> u64 {
+    let mut sum = 0;
+    for index in 0..book.len() {
+        if let Some(row) = book.row(index) {
+            sum = mixed(sum, mark_of_record(&row));
+        }
+    }
+    sum
+}
+
 /// A number of a state that few others have.
 fn bucket_of(begun: &Begun) -> usize {
     let world = begun.world();
     let last = world.last();
     let mut sum = mixed(last.mount.0, last.token.0.into());
-    sum = mixed(sum, world.packets().len() as u64);
-    sum = mixed(sum, world.jobs().len() as u64);
     sum = mixed(sum, world.mounts().len() as u64);
+    for row in world.packets() {
+        sum = mixed(sum, row.token.0.into());
+    }
+    for job in world.jobs() {
+        sum = mixed(sum, mark_of_job(job));
+    }
+    sum = mixed(sum, mark_of_book(world.book()));
     for progress in begun.threads() {
         sum = mixed(sum, mark_of(progress));
     }
