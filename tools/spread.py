@@ -9,6 +9,7 @@ of its scheduler is given.
 
 import concurrent.futures
 import os
+import re
 import subprocess
 import sys
 import threading
@@ -76,10 +77,12 @@ class There:
 
     def __init__(self, address):
         self.dask, self.running = distributed(), {}
-        self.came = self.dask.as_completed()
+        if not re.fullmatch(r"(\w+://)?[^/\s]+:\d+", address):
+            raise Trouble(f"expected the address of a scheduler of dask, as tcp://HOST:8786, and not {address}")
         try:
             self.client = self.dask.Client(address, timeout=PATIENCE, set_as_default=False)
             self.client.wait_for_workers(1, timeout=PATIENCE)
+            self.came = self.dask.as_completed(loop=self.client.loop)
         except (OSError, ValueError, TypeError, TimeoutError, self.dask.TimeoutError) as error:
             raise Trouble(f"expected a scheduler of dask with a worker at {address}: {first_line(error)}") from error
 
