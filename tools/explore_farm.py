@@ -7,10 +7,11 @@ usage: tools/explore_farm.py [--most STATES] [--split PARTS] [--parts N] [--apar
 
 First the whole scene is searched, over few states. Where that is cut, it is cut into parts, each of which is searched by
 `automount_cli explore --prefix`, over STATES at most (100000); a part that is cut is cut once more. A cut goes down level
-by level, until there are PARTS beginnings (128), and of those that are alike one is searched: they have the same world, by
-its text, and each thread has made the same events with the same answers, and each job the same acts, in another order. So
-its orders count as often as there are such beginnings. With --apart each part is cut by one choice more, into
-`PREFIX,1`, `PREFIX,2` .., and all are searched, alike or not; that takes many times as long.
+by level, until there are PARTS beginnings (two for each search that runs at once), and of those that are alike one is
+searched: they have the same world, by its text, and each thread has made the same events with the same answers, and each
+job the same acts, in another order. So its orders count as often as there are such beginnings. With --apart each part is
+cut by one choice more, into `PREFIX,1`, `PREFIX,2` .., and all are searched, alike or not: that rests on nothing but what
+`explore` writes, and takes longer, by far where parts are cut several levels deep.
 
 After N searches (100000) no more is begun, and what is left isn't seen. With --scheduler the searches run on the workers of
 dask at ADDRESS (tools/spread.py); else N processes run here, as many as there are processors. The program is the one that
@@ -323,9 +324,11 @@ def lines_of(found, last):
 
 def explore(scene, words):
     """Searches all parts, and writes what is found; returns the exit status."""
-    farm, bar = Farm(scene, words), spread.Bar()
+    place, bar = spread.place_of(words.scheduler, words.processes), spread.Bar()
+    words.split = words.split or 2 * place.width
+    farm = Farm(scene, words)
     try:
-        for part, came in spread.run(farm.commands, words.scheduler, words.processes):
+        for part, came in spread.run(farm.commands, place):
             farm.take(part, came)
             bar.show(farm.ended, farm.begun, f" searches, {farm.seen} parts seen whole")
     finally:
@@ -355,7 +358,7 @@ def count(word):
 
 def read(words):
     parser = Words(add_help=False, allow_abbrev=False)
-    for name, usual in (("most", 100_000), ("split", 128), ("parts", 100_000), ("processes", None)):
+    for name, usual in (("most", 100_000), ("split", None), ("parts", 100_000), ("processes", None)):
         parser.add_argument(f"--{name}", type=count, default=usual)
     parser.add_argument("--apart", action="store_true")
     parser.add_argument("--scheduler")

@@ -28,7 +28,10 @@ class Trouble(Exception):
 class Here:
     """The processors of this machine."""
 
+    where = ""
+
     def __init__(self, processes):
+        self.width = processes
         self.pool = concurrent.futures.ThreadPoolExecutor(processes)
         self.children, self.lock, self.is_over, self.running = set(), threading.Lock(), False, {}
 
@@ -75,6 +78,8 @@ def distributed():
 class There:
     """The workers of a scheduler of dask."""
 
+    where = ", where each worker is"
+
     def __init__(self, address):
         self.dask, self.running = distributed(), {}
         if not re.fullmatch(r"(\w+://)?[^/\s]+:\d+", address):
@@ -82,6 +87,7 @@ class There:
         try:
             self.client = self.dask.Client(address, timeout=PATIENCE, set_as_default=False)
             self.client.wait_for_workers(1, timeout=PATIENCE)
+            self.width = sum(self.client.nthreads().values())
             self.came = self.dask.as_completed(loop=self.client.loop)
         except (OSError, ValueError, TypeError, TimeoutError, self.dask.TimeoutError) as error:
             raise Trouble(f"expected a scheduler of dask with a worker at {address}: {first_line(error)}") from error
@@ -105,17 +111,22 @@ def first_line(error):
     return (str(error).strip().splitlines() or [type(error).__name__])[0]
 
 
-def run(commands, scheduler=None, processes=None):
+def place_of(scheduler=None, processes=None):
+    """Where commands are run: on the workers of a scheduler, or by so many processes here, else as many as there are
+    processors. Its width is how many it runs at once."""
+    return There(scheduler) if scheduler else Here(processes or len(os.sched_getaffinity(0)))
+
+
+def run(commands, place):
     """Runs commands, each a tag, its words and what it reads, and gives the tag of each with what came of it as it ends: a
     CompletedProcess, whose outputs are bytes. Commands that are added to the list meanwhile are run too."""
-    place = There(scheduler) if scheduler else Here(processes or len(os.sched_getaffinity(0)))
     try:
         while commands or place.running:
             while commands:
                 place.begin(*commands.pop(0))
             yield place.next()
     except FileNotFoundError as error:
-        raise Trouble(f"expected a program at {error.filename}" + (" where each worker is" if scheduler else "")) from error
+        raise Trouble(f"expected a program at {error.filename}{place.where}") from error
     except Exception as error:
         raise Trouble(f"a command can't be run: {first_line(error)}") from error
     finally:
