@@ -40,7 +40,7 @@ FIRST = 2000
 #: Where the count of orders stays.
 MOST_ORDERS = 2**64 - 1
 CUT = re.compile(r"not all seen(?:, no order of fewer than (\d+) events)?")
-LAST = re.compile(r"# orders (\d+) states \d+ ends \d+.*|# not all seen, states \d+ choices (\d+)")
+LAST = re.compile(r"# orders (\d+) states (\d+) ends \d+.*|# not all seen, states (\d+) choices (\d+)")
 
 
 class Broken(Exception):
@@ -146,7 +146,8 @@ class Farm:
         self.scene, self.words = scene, words
         self.whole = Part(stand=scene.begin())
         self.parts, self.commands = {}, []
-        self.begun = self.ended = self.seen = 0
+        # How many searches were begun and have ended, how many of them saw their part whole, and the states of all.
+        self.begun = self.ended = self.seen = self.states = 0
         self.search(self.whole, min(words.most, FIRST))
 
     def search(self, part, most):
@@ -165,12 +166,12 @@ class Farm:
         counts = LAST.fullmatch(last)
         if not counts or list(findings) != list(self.scene.questions):
             raise Broken(f"the program writes {last[:80]!r}, and no findings of a part")
-        self.ended += 1
+        self.ended, self.states = self.ended + 1, self.states + int(counts[2] or counts[3])
         part.findings = findings
         if counts[1]:
             part.orders, self.seen = int(counts[1]), self.seen + 1
         else:
-            self.cut(part, int(counts[2]))
+            self.cut(part, int(counts[4]))
 
     def cut(self, part, choices):
         """Cuts a part that has so many choices, and has its parts searched."""
@@ -322,8 +323,8 @@ def lines_of(found, last):
     yield last
 
 
-def explore(scene, words):
-    """Searches all parts, and writes what is found; returns the exit status."""
+def searched(scene, words):
+    """A farm whose searches have ended."""
     place, bar = spread.place_of(words.scheduler, words.processes), spread.Bar()
     words.split = words.split or 2 * place.width
     farm = Farm(scene, words)
@@ -333,7 +334,12 @@ def explore(scene, words):
             bar.show(farm.ended, farm.begun, f" searches, {farm.seen} parts seen whole")
     finally:
         bar.end()
-    found, last = farm.results()
+    return farm
+
+
+def explore(scene, words):
+    """Searches all parts, and writes what is found; returns the exit status."""
+    found, last = searched(scene, words).results()
     sys.stdout.buffer.write("".join(f"{it}\n" for it in lines_of(found, last)).encode("utf-8", "surrogateescape"))
     return status_of(scene, found)
 
