@@ -27,6 +27,7 @@ import functools
 import hashlib
 import os
 import re
+import signal
 import subprocess
 import sys
 
@@ -204,8 +205,8 @@ class Farm:
     def beginnings(self, part):
         """Goes down level by level, until there are so many parts, and gives those that are new: of the last level, and
         those that are an end above it."""
-        level, ends = [part], []
-        while level and len(level) + len(ends) < self.words.split:
+        level, ends, below = [part], [], None
+        while level and (below is None or len(level) + len(ends) < self.words.split):
             below = []
             for it, steps in zip(level, self.steps(level)):
                 it.parts = [(number, self.part_of(it, number, event, stand, mark, below)) for number, event, stand, mark in steps]
@@ -333,6 +334,7 @@ def searched(scene, words):
             farm.take(part, came)
             bar.show(farm.ended, farm.begun, f" searches, {farm.seen} parts seen whole")
     finally:
+        place.end()
         bar.end()
     return farm
 
@@ -374,6 +376,7 @@ def read(words):
 
 
 def main(words):
+    signal.signal(signal.SIGTERM, lambda number, _: sys.exit(128 + number))
     words = read(words)
     if not os.path.isfile(words.scene):
         stop(f"expected the path of a scene, and there is no file {words.scene}")
@@ -387,6 +390,8 @@ def main(words):
         return explore(scene, words)
     except spread.Trouble as trouble:
         stop(trouble)
+    except KeyboardInterrupt:
+        return 130
     except Broken as broken:
         print(broken if str(broken).startswith("fault: ") else f"explore_farm: {broken}", file=sys.stderr)
         return 1

@@ -8,8 +8,11 @@ of its scheduler is given.
 """
 
 import concurrent.futures
+import contextlib
+import logging
 import os
 import re
+import signal
 import subprocess
 import sys
 import threading
@@ -42,7 +45,8 @@ class Here:
         with self.lock:
             if self.is_over:
                 return None
-            child = subprocess.Popen(words, stdin=subprocess.PIPE, stdout=subprocess.PIPE, stderr=subprocess.PIPE)
+            child = subprocess.Popen(words, stdin=subprocess.PIPE, stdout=subprocess.PIPE, stderr=subprocess.PIPE,
+                                     start_new_session=True)
             self.children.add(child)
         try:
             wrote, said = child.communicate(given)
@@ -56,20 +60,21 @@ class Here:
         return self.running.pop(done), done.result()
 
     def end(self):
-        """Ends what still runs."""
+        """Ends what still runs, with all that it has begun."""
         with self.lock:
             self.is_over = True
         for child in list(self.children):
-            child.kill()
+            with contextlib.suppress(ProcessLookupError):
+                os.killpg(child.pid, signal.SIGKILL)
         self.pool.shutdown(cancel_futures=True)
 
 
 def distributed():
     """The module, which says nothing by itself."""
     try:
-        import dask  # pylint: disable=import-outside-toplevel
-        dask.config.set({"logging": {"distributed": "critical"}})
         import distributed as found  # pylint: disable=import-outside-toplevel
+        # That a worker died is no matter of who waits for its commands.
+        logging.disable(logging.CRITICAL)
         return found
     except ImportError as error:
         raise Trouble(f"expected Python's distributed for a scheduler, which Debian's package python3-distributed has: {error}") from error
@@ -103,8 +108,9 @@ class There:
         return self.running.pop(future), future.result()
 
     def end(self):
-        self.client.cancel(list(self.running))
-        self.client.close()
+        if self.client.status != "closed":
+            self.client.cancel(list(self.running))
+            self.client.close()
 
 
 def first_line(error):
