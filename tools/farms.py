@@ -31,13 +31,13 @@ import explore  # noqa: E402
 import order  # noqa: E402
 
 FARM, FOLDER, PATIENCE = "tools/explore_farm.py", "examples/explore", 300
-#: A scene that is explored on workers, and one that isn't seen whole.
-SPREAD, LEFT = "two_walkers", "a_failure"
+#: The scene that is explored on workers, and isn't seen whole: one of few states.
+LEFT = "a_failure"
 #: Which part of a scene's states one search looks at, and how its parts are cut.
 CUTS = ((2, "--split 4"), (6, "--split 2"), (5, "--split 30"), (3, "--apart"))
 WORKERS = 3
 #: A program that is slow enough to kill a worker meanwhile, and tells that it has begun.
-SLOW = "#!/bin/sh\necho begun >> {room}/begun\nsleep 0.1\nexec {program} \"$@\"\n"
+SLOW = "#!/bin/sh\necho begun >> {room}/begun\nsleep 0.3\nexec {program} \"$@\"\n"
 COUNTS = re.compile(r"# orders (\d+) states (\d+) ends \d+.*")
 
 
@@ -173,15 +173,15 @@ def begun(room):
 
 def fault_on_workers(program, python, room):
     """What is wrong where a worker is killed meanwhile, if something is."""
-    path, expected = path_of(SPREAD), whole(program, path_of(SPREAD))
+    path, expected = path_of(LEFT), whole(program, path_of(LEFT))
     with open(f"{room}/slow", "w", encoding="utf-8") as file:
         file.write(SLOW.format(room=room, program=program))
     os.chmod(f"{room}/slow", 0o755)
     with dask(python, room) as (address, workers):
-        words = ["--most", "40", "--split", "4", "--scheduler", address, "--program", f"{room}/slow", path]
+        words = ["--most", "4", "--split", "2", "--scheduler", address, "--program", f"{room}/slow", path]
         with subprocess.Popen([python, FARM, *words], stdout=subprocess.PIPE, stderr=subprocess.PIPE, text=True) as farm:
             try:
-                until(lambda: begun(room) >= 12 or farm.poll() is not None)
+                until(lambda: begun(room) >= 4 or farm.poll() is not None)
                 was_running = farm.poll() is None
                 os.killpg(workers[0].pid, signal.SIGKILL)
                 wrote, said = farm.communicate(timeout=PATIENCE)
@@ -192,7 +192,7 @@ def fault_on_workers(program, python, room):
 
 def checks_with_dask(program, python, room):
     if python:
-        yield f"{SPREAD}: {WORKERS} workers, of which one is killed", lambda: fault_on_workers(program, python, room)
+        yield f"{LEFT}: {WORKERS} workers, of which one is killed", lambda: fault_on_workers(program, python, room)
         nobody = ["--program", program, "--scheduler", "127.0.0.1:1", path_of(LEFT)]
         yield "no scheduler", lambda: fault_of_refusal(nobody, 2, "explore_farm: expected a scheduler", python=python)
     else:

@@ -18,7 +18,7 @@ import sys
 import threading
 
 #: For how many seconds a scheduler is looked for, and then a worker of it.
-PATIENCE = 15
+PATIENCE = 10
 #: How often dask tries a command again that couldn't be begun.
 RETRIES = 3
 WIDTH = 40
