@@ -8,10 +8,10 @@ usage: tools/explore_farm.py [--most STATES] [--split PARTS] [--parts N] [--apar
 First the whole scene is searched, over few states. Where that is cut, it is cut into parts, each of which is searched by
 `automount_cli explore --prefix`, over STATES at most (100000); a part that is cut is cut once more. A cut goes down level
 by level, until there are PARTS beginnings (two for each search that runs at once), and of those that are alike one is
-searched: they have the same world, by its text, and each thread has made the same events with the same answers, and each
-job the same acts, in another order. So its orders count as often as there are such beginnings. With --apart each part is
-cut by one choice more, into `PREFIX,1`, `PREFIX,2` .., and all are searched, alike or not: that rests on nothing but what
-`explore` writes, and takes longer, by far where parts are cut several levels deep.
+searched: each thread has made the same events with the same answers, the same was observed, and the same acts have
+failed, in another order, and the world's text is the same. So its orders count as often as there are such beginnings.
+With --apart each part is cut by one choice more, into `PREFIX,1`, `PREFIX,2` .., and all are searched, alike or not: that
+rests on nothing but what `explore` writes, and takes longer, by far where parts are cut several levels deep.
 
 After N searches (100000) no more is begun, and what is left isn't seen. With --scheduler the searches run on the workers of
 dask at ADDRESS (tools/spread.py); else N processes run here, as many as there are processors. The program is the one that
@@ -73,11 +73,11 @@ class Scene:
 
 
 class Stand:
-    """Where the threads stand behind an order: of each the next event, and the answers it had; of each job the acts that
-    were made of it; and the packets and jobs that are there."""
+    """Where a scene stands behind an order: of each thread the next event and the answers it had, all that was observed and
+    each act that has failed, whatever came first, and the packets and jobs that are there."""
 
-    def __init__(self, threads, jobs, busy):
-        self.threads, self.jobs, self.busy = threads, jobs, busy
+    def __init__(self, threads, seen, busy):
+        self.threads, self.seen, self.busy = threads, seen, busy
 
     def choices(self, scene):
         """What may come next, as the program counts it: the thread that makes it, none of the daemon, and the event."""
@@ -88,23 +88,24 @@ class Stand:
             found += [(None, f"act {it} {way}") for it in jobs for way in scene.ways]
         return found
 
-    def behind(self, scene, choice, answer, world):
-        """Where they stand behind a choice that was answered so; None where it is no step."""
+    def behind(self, scene, choice, answer, seen, world):
+        """Where it stands behind a choice that was answered so; None where that is no step."""
         thread, event = choice
         if answer == "err 11" if thread is not None else answer.startswith("err "):
             return None
-        threads, jobs = self.threads, self.jobs
+        threads = self.threads
         if thread is not None:
             at, heard = threads[thread]
             moved = after(scene.threads[thread], at, answer), (*heard, (at + 1, answer))
             threads = (*threads[:thread], moved, *threads[thread + 1:])
-        if event.startswith("act "):
-            jobs = tuple(sorted((*jobs, (event.split(" ")[1], sum(it[0] == event.split(" ")[1] for it in jobs), event, answer))))
-        return Stand(threads, jobs, busy_in(world))
+        # By which error an act has failed is observed no sooner than its job replies.
+        failed = [event] if answer.startswith("failed ") else []
+        return Stand(threads, tuple(sorted([*self.seen, *seen, *failed])), busy_in(world))
 
     def mark(self, world):
         """What tells it from all that aren't alike."""
-        return hashlib.sha256(repr((self.threads, self.jobs, world)).encode("utf-8", "surrogateescape")).digest()
+        told = repr((self.threads, self.seen, world))
+        return hashlib.sha256(told.encode("utf-8", "surrogateescape")).digest()
 
 
 def passed(events):
@@ -229,7 +230,7 @@ class Farm:
         for part in level:
             lines += ["!reset", *script, *part.events, "!save"]
             for _, event in part.stand.choices(self.scene):
-                lines += [event, "?world", "!back"]
+                lines += [event, "?trace", "?world", "!back"]
         replies = replies_in(self.asked(["serve"], "\n".join(lines) + "\n"))
         for part in level:
             for _ in range(len(script) + len(part.events) + 2):
@@ -239,8 +240,8 @@ class Farm:
     def steps_behind(self, part, replies):
         found = []
         for number, choice in enumerate(part.stand.choices(self.scene), 1):
-            (answer,), world, _ = next(replies), next(replies), next(replies)
-            stand = part.stand.behind(self.scene, choice, answer, world)
+            (answer,), seen, world, _ = (next(replies) for _ in range(4))
+            stand = part.stand.behind(self.scene, choice, answer, seen, world)
             if stand:
                 found.append((number, choice[1], stand, stand.mark(world)))
         return found
