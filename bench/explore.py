@@ -50,7 +50,7 @@ SCENES = {
     "two_walkers": (SHARED, [SEVEN, EIGHT], "", 72),
     "three_walkers": (SHARED, [SEVEN, EIGHT, NINE], "", 11_070),
     "two_keys": (SHARED, [SEVEN, walker(8, 1, "work"), NINE], "", 5_060_016),
-    "three_keys": (["attach /auto"], [walker(7, 0)[:1], walker(8, 0, "work")[:1], walker(9, 0, "mail")[:1]], "", 17_153_136),
+    "three_keys": (["attach /auto"], [SEVEN[:1], walker(8, 0, "work")[:1], walker(9, 0, "mail")[:1]], "", 17_153_136),
     "death": (SHARED, [SEVEN, EIGHT, EXPIRER, DEATH], "", 56_054_078),
     "failures": (SHARED, [SEVEN, EIGHT, EXPIRER], " fail 2", 24_891_299_552),
     "administrator": (["attach /auto"], [SEVEN, DEATH[:1], DEATH[1:]], " fail 2", 1_711),
@@ -77,7 +77,8 @@ def program_path():
 def search(program, text, most=1_000_000):
     """Seconds, MiB at most, and what was written."""
     begun = time.perf_counter()
-    with subprocess.Popen([program, "explore", "--most", str(most)], stdin=subprocess.PIPE, stdout=subprocess.PIPE) as run:
+    words = [program, "explore", "--most", str(most)]
+    with subprocess.Popen(words, stdin=subprocess.PIPE, stdout=subprocess.PIPE) as run:
         run.stdin.write(text.encode())
         run.stdin.close()
         wrote = run.stdout.read().decode()

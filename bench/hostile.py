@@ -8,8 +8,8 @@ usage: bench/hostile.py FIRST COUNT     plays the scripts of these seeds
        bench/hostile.py long            plays scripts of 64 MiB, and tells the memory that they take
        bench/hostile.py digits          changes each of the 608 digits of a packet that is delivered
 
-With --scheduler ADDRESS behind a COUNT the scripts are played on the workers of dask at that address (tools/spread.py), a
-hundred by each command: a worker needs this file and the program at the same paths.
+With --scheduler ADDRESS behind a COUNT the scripts are played on the workers of dask at that address (tools/spread.py),
+a hundred by each command: a worker needs this repository and the program at the same paths.
 
 PROGRAM in the environment is the path of the program; else it is the one that tools/program.sh
 prints. Each run must end in 20 seconds of processor time with status 0 and nothing on standard error, or with status 1
@@ -501,7 +501,7 @@ def tell_served(count, faults):
 
 
 def spread_all(program, scheduler, words, first, count):
-    """Has commands play so many scripts on workers; tells what is wrong with the first of those with a fault, if one has."""
+    """Has commands play so many scripts on workers; tells what is wrong with the first that comes out otherwise."""
     begin = ["env", f"PROGRAM={program}", "python3", os.path.abspath(__file__), *words]
     chunks = [(it, min(CHUNK, first + count - it)) for it in range(first, first + count, CHUNK)]
     commands = [(it, [*begin, str(it), str(size)], b"") for it, size in chunks]
@@ -514,7 +514,8 @@ def spread_all(program, scheduler, words, first, count):
         bar.end()
     for _, done in sorted(came.items()):
         if done.returncode or not PLAYED.fullmatch(done.stdout.decode()):
-            sys.stderr.write(done.stderr.decode(errors="replace") or f"hostile: a command ends with status {done.returncode}\n")
+            said = done.stderr.decode(errors="replace")
+            sys.stderr.write(said or f"hostile: a command ends with status {done.returncode}\n")
             return 1
     faults = sum(int(PLAYED.fullmatch(it.stdout.decode())[2]) for it in came.values())
     tell_served(count, faults) if words else tell_played(first, count, faults)

@@ -5,21 +5,24 @@
 usage: tools/explore_farm.py [--most STATES] [--split PARTS] [--parts N] [--apart] [--processes N]
                              [--scheduler ADDRESS] [--program PATH] SCENE
 
-First the whole scene is searched, over few states. Where that is cut, it is cut into parts, each of which is searched by
-`automount_cli explore --prefix`, over STATES at most (100000); a part that is cut is cut once more. A cut goes down level
-by level, until there are PARTS beginnings (two for each search that runs at once), and of those that are alike one is
-searched: each thread has made the same events with the same answers, the same was observed, and the same acts have
-failed, in another order, and the world's text is the same. So its orders count as often as there are such beginnings.
-With --apart each part is cut by one choice more, into `PREFIX,1`, `PREFIX,2` .., and all are searched, alike or not: that
-rests on nothing but what `explore` writes, and takes longer, by far where parts are cut several levels deep.
+First the whole scene is searched, over few states. Where that is cut, it is cut into parts, each of which is searched
+by `automount_cli explore --prefix`, over STATES at most (100000); a part that is cut is cut once more. A cut goes
+down level by level, until there are PARTS beginnings (two for each search that runs at once), and of those that are
+alike one is searched: each thread has made the same events with the same answers, the same was observed, and the same
+acts have failed, in another order, and the world's text is the same. So its orders count as often as there are such
+beginnings. With --apart each part is cut by one choice more, into `PREFIX,1`, `PREFIX,2` .., and all are searched,
+alike or not: that rests on nothing but what `explore` writes, and takes longer, by far where parts are cut several
+levels deep.
 
-After N searches (100000) no more is begun, and what is left isn't seen. With --scheduler the searches run on the workers of
-dask at ADDRESS (tools/spread.py); else N processes run here, as many as there are processors. The program is the one that
-tools/program.sh prints, or the one at PATH; each worker needs it at the same path, and the scene goes with each search.
+After N searches (100000) no more is begun, and what is left isn't seen. With --scheduler the searches run on the
+workers of dask at ADDRESS (tools/spread.py); else N processes run here, as many as there are processors. The program
+is the one that tools/program.sh prints, or the one at PATH; each worker needs it at the same path, and the scene goes
+with each search.
 
 The last line is `# orders X parts P`: X as `explore` counts, and P how many searches have seen their part whole; or
-`# not all seen, parts P`. What is found of each question is what `explore` finds, event by event; where not all is seen, an
-order that is told may not be the shortest. The exit statuses are those of `explore`, 2 where something else is expected.
+`# not all seen, parts P`. What is found of each question is what `explore` finds, event by event; where not all is
+seen, an order that is told may not be the shortest. The exit statuses are those of `explore`, 2 where something else
+is expected.
 """
 
 import argparse
@@ -73,15 +76,16 @@ class Scene:
 
 
 class Stand:
-    """Where a scene stands behind an order: of each thread the next event and the answers it had, all that was observed and
-    each act that has failed, whatever came first, and the packets and jobs that are there."""
+    """Where a scene stands behind an order: of each thread the next event and the answers it had, all that was observed
+    and each act that has failed, whatever came first, and the packets and jobs that are there."""
 
     def __init__(self, threads, seen, busy):
         self.threads, self.seen, self.busy = threads, seen, busy
 
     def choices(self, scene):
         """What may come next, as the program counts it: the thread that makes it, none of the daemon, and the event."""
-        found = [(n, events[at]) for n, (events, (at, _)) in enumerate(zip(scene.threads, self.threads)) if at < len(events)]
+        stands = enumerate(zip(scene.threads, self.threads))
+        found = [(n, events[at]) for n, (events, (at, _)) in stands if at < len(events)]
         packets, jobs = self.busy
         if scene.ways:
             found += [(None, f"deliver {it}") for it in packets]
@@ -129,9 +133,9 @@ def busy_in(world):
 # Parts
 
 class Part:
-    """All orders that begin in one way, or in ways that are alike: the numbers of the choices and the events of the first
-    that was found. Behind a cut it has parts of its own, each with the number of a choice; behind a search its findings
-    and the count of its orders."""
+    """All orders that begin in one way, or in ways that are alike: the numbers of the choices and the events of the
+    first that was found. Behind a cut it has parts of its own, each with the number of a choice; behind a search its
+    findings, and the count of its orders if it was seen whole."""
 
     def __init__(self, prefix=(), events=(), stand=None):
         self.prefix, self.events, self.stand = prefix, events, stand
@@ -184,7 +188,7 @@ class Farm:
             if not part.prefix:
                 part.stand.busy = self.busy_at_first()
             if len(part.stand.choices(self.scene)) != choices:
-                raise Broken(f"behind {part.prefix} the program has {choices} choices, not {part.stand.choices(self.scene)}")
+                raise Broken(f"the program has {choices} choices behind {part.prefix}, and here are others")
             found = self.beginnings(part)
         for it in found:
             self.search(it, self.words.most)
@@ -200,7 +204,8 @@ class Farm:
         ran = subprocess.run([self.words.program, *words], input=text.encode("utf-8", "surrogateescape"),
                              capture_output=True, check=False)
         if ran.returncode:
-            raise Broken(ran.stderr.decode(errors="replace").strip() or f"the program ends with status {ran.returncode}")
+            said = ran.stderr.decode(errors="replace").strip()
+            raise Broken(said or f"the program ends with status {ran.returncode}")
         return ran.stdout.decode("utf-8", "surrogateescape")
 
     def beginnings(self, part):
@@ -210,7 +215,7 @@ class Farm:
         while level and (below is None or len(level) + len(ends) < self.words.split):
             below = []
             for it, steps in zip(level, self.steps(level)):
-                it.parts = [(number, self.part_of(it, number, event, stand, mark, below)) for number, event, stand, mark in steps]
+                it.parts = [(number, self.part_of(it, number, *step, below)) for number, *step in steps]
                 if not it.parts:
                     ends.append(it)
             level = below
@@ -256,7 +261,8 @@ class Farm:
             for part in level:
                 for number, it in part.parts:
                     prefix = *first[part], number
-                    ways[it], first[it], below[it] = ways.get(it, 0) + ways[part], min(first.get(it, prefix), prefix), True
+                    ways[it], first[it] = ways.get(it, 0) + ways[part], min(first.get(it, prefix), prefix)
+                    below[it] = True
             level = list(below)
         return ways, first
 
@@ -282,7 +288,8 @@ class Farm:
 
     def finding(self, line, first):
         """The shortest order for a question, the first part's among those of one length; or why there is none."""
-        told = [(len(it.findings[line]), prefix, it) for it, prefix in first.items() if it.findings and isinstance(it.findings[line], list)]
+        told = [(it.findings[line], prefix, it) for it, prefix in first.items() if it.findings]
+        told = [(len(events), prefix, it) for events, prefix, it in told if isinstance(events, list)]
         if told:
             _, prefix, part = min(told, key=lambda it: it[:2])
             return part.findings[line] if part.prefix == prefix else self.order_from(prefix, line)

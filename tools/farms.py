@@ -3,8 +3,8 @@
 
 usage: tools/farms.py [NAME..]
 
-- scenes of examples/explore, all of them or those that are named, are explored by parts that are cut several levels deep:
-  what is found of each question, the number of orders and the exit status are those of one run;
+- scenes of examples/explore, all of them or those that are named, are explored by parts that are cut several levels
+  deep: what is found of each question, the number of orders and the exit status are those of one run;
 - where no name is given, three walkers of bench/explore.py too: their orders, and those of the parts `1`, `2` .. that
   `explore --prefix` sees, add up;
 - what isn't seen isn't told; a program, a scene, a scheduler or words that aren't there are told in one line;
@@ -43,8 +43,8 @@ COUNTS = re.compile(r"# orders (\d+) states (\d+) ends \d+.*")
 
 def ran(words, python=sys.executable, **how):
     """Runs the farm, and returns its status, what it wrote and what it told."""
-    how = {"capture_output": True, "text": True, "errors": "surrogateescape", "timeout": PATIENCE, "check": False, **how}
-    done = subprocess.run([python, FARM, *words], stdin=subprocess.DEVNULL, **how)
+    how = {"text": True, "errors": "surrogateescape", "timeout": PATIENCE, "check": False, **how}
+    done = subprocess.run([python, FARM, *words], stdin=subprocess.DEVNULL, capture_output=True, **how)
     return done.returncode, done.stdout, done.stderr
 
 
@@ -90,8 +90,8 @@ def checks_of(program, path):
 def fault_of_sum(program, path):
     """What is wrong with the parts `1`, `2` .. of a scene, if something is."""
     expected, text = whole(program, path), order.text_of(path).encode()
-    cut = subprocess.run([program, "explore", "--most", "1"], input=text, capture_output=True, check=False).stdout.decode()
-    count = int(re.search(r"^# not all seen, states 1 choices (\d+)$", cut, re.M)[1])
+    cut = subprocess.run([program, "explore", "--most", "1"], input=text, capture_output=True, check=False)
+    count = int(re.search(r"^# not all seen, states 1 choices (\d+)$", cut.stdout.decode(), re.M)[1])
     parts = [subprocess.run([program, "explore", "--prefix", str(it)], input=text, capture_output=True, check=False)
              for it in range(1, count + 1)]
     orders = [int(COUNTS.fullmatch(it.stdout.decode().splitlines()[-1])[1]) for it in parts]
@@ -113,20 +113,26 @@ def fault_of_left(program):
     findings, last = order.findings(wrote)
     told = {it for it in findings.values() if isinstance(it, str)}
     is_so = status == 3 and not said and re.fullmatch(r"# not all seen, parts [01]", last)
-    return None if is_so and told and all(it.startswith("not all seen") for it in told) else f"status {status}, {wrote!r}"
+    is_so = is_so and told and all(it.startswith("not all seen") for it in told)
+    return None if is_so else f"status {status}, {wrote!r}"
 
 
 def refusals(program, room):
-    scene = path_of(LEFT)
-    with open(f"{room}/bad.scene", "w", encoding="utf-8") as file:
+    """What is refused, by its name: the words, the status, and how what is told begins."""
+    scene, bad = path_of(LEFT), f"{room}/bad.scene"
+    with open(bad, "w", encoding="utf-8") as file:
         file.write("events\nthread\nend\n")
-    yield "no words", lambda: fault_of_refusal([], 2, "explore_farm: expected")
-    yield "no scene", lambda: fault_of_refusal([f"{room}/none"], 2, "explore_farm: expected the path of a scene")
-    yield "no states", lambda: fault_of_refusal(["--most", "0", scene], 2, "explore_farm: expected")
-    yield "no program", lambda: fault_of_refusal(["--program", f"{room}/none", scene], 2, "explore_farm: expected a program")
-    yield "another program", lambda: fault_of_refusal(["--program", "/bin/true", scene], 1, "explore_farm: the program")
-    yield "a bad scene", lambda: fault_of_refusal(["--program", program, f"{room}/bad.scene"], 1, "fault: line 2: BadThread")
-    yield "no address", lambda: fault_of_refusal(["--program", program, "--scheduler", "nowhere", scene], 2, "explore_farm: expected")
+    rows = (
+        ("no words", [], 2, "explore_farm: expected"),
+        ("no scene", [f"{room}/none"], 2, "explore_farm: expected the path of a scene"),
+        ("no states", ["--most", "0", scene], 2, "explore_farm: expected"),
+        ("no program", ["--program", f"{room}/none", scene], 2, "explore_farm: expected a program"),
+        ("another program", ["--program", "/bin/true", scene], 1, "explore_farm: the program"),
+        ("a bad scene", ["--program", program, bad], 1, "fault: line 2: BadThread"),
+        ("no address", ["--program", program, "--scheduler", "nowhere", scene], 2, "explore_farm: expected"),
+    )
+    for name, *row in rows:
+        yield name, lambda row=row: fault_of_refusal(*row)
 
 
 # On workers
@@ -142,14 +148,14 @@ def python_with_dask():
 @contextlib.contextmanager
 def dask(python, room):
     """A scheduler with workers, each a process here: gives its address and the processes."""
-    beginning = {"stdin": subprocess.DEVNULL, "stdout": subprocess.DEVNULL, "stderr": subprocess.DEVNULL, "start_new_session": True}
+    how = {**dict.fromkeys(("stdin", "stdout", "stderr"), subprocess.DEVNULL), "start_new_session": True}
     begin = [python, "-m"]
     where = ["--scheduler-file", f"{room}/scheduler", "--host", "127.0.0.1", "--no-dashboard"]
-    running = [subprocess.Popen([*begin, "distributed.cli.dask_scheduler", *where, "--port", "0"], **beginning)]
+    running = [subprocess.Popen([*begin, "distributed.cli.dask_scheduler", *where, "--port", "0"], **how)]
     try:
         until(lambda: os.path.exists(f"{room}/scheduler") and order.text_of(f"{room}/scheduler").strip().endswith("}"))
         words = [*where, "--nthreads", "1", "--no-nanny", "--local-directory", room]
-        running += [subprocess.Popen([*begin, "distributed.cli.dask_worker", *words], **beginning) for _ in range(WORKERS)]
+        running += [subprocess.Popen([*begin, "distributed.cli.dask_worker", *words], **how) for _ in range(WORKERS)]
         yield json.loads(order.text_of(f"{room}/scheduler"))["address"], running[1:]
     finally:
         for it in reversed(running):
@@ -179,7 +185,8 @@ def fault_on_workers(program, python, room):
     os.chmod(f"{room}/slow", 0o755)
     with dask(python, room) as (address, workers):
         words = ["--most", "4", "--split", "2", "--scheduler", address, "--program", f"{room}/slow", path]
-        with subprocess.Popen([python, FARM, *words], stdout=subprocess.PIPE, stderr=subprocess.PIPE, text=True) as farm:
+        how = {"stdout": subprocess.PIPE, "stderr": subprocess.PIPE, "text": True}
+        with subprocess.Popen([python, FARM, *words], **how) as farm:
             try:
                 until(lambda: begun(room) >= 4 or farm.poll() is not None)
                 was_running = farm.poll() is None
@@ -187,7 +194,9 @@ def fault_on_workers(program, python, room):
                 wrote, said = farm.communicate(timeout=PATIENCE)
             finally:
                 farm.kill()
-    return fault_of((farm.returncode, wrote, said), expected) if was_running else f"it ended before a worker was killed: {said.strip()!r}"
+    if not was_running:
+        return f"it ended before a worker was killed: {said.strip()!r}"
+    return fault_of((farm.returncode, wrote, said), expected)
 
 
 def checks_with_dask(program, python, room):
@@ -208,7 +217,8 @@ def checks(program, names, room):
         with open(f"{room}/three_walkers.scene", "w", encoding="utf-8") as file:
             file.write(explore.text_of(*explore.SCENES["three_walkers"][:3]))
         yield from checks_of(program, f"{room}/three_walkers.scene")
-        yield "three walkers: the parts by the first choice", lambda: fault_of_sum(program, f"{room}/three_walkers.scene")
+        path = f"{room}/three_walkers.scene"
+        yield "three walkers: the parts by the first choice", lambda: fault_of_sum(program, path)
     yield "not all parts", lambda: fault_of_left(program)
     yield from refusals(program, room)
     yield from checks_with_dask(program, python_with_dask(), room)

@@ -77,7 +77,8 @@ def distributed():
         logging.disable(logging.CRITICAL)
         return found
     except ImportError as error:
-        raise Trouble(f"expected Python's distributed for a scheduler, which Debian's package python3-distributed has: {error}") from error
+        where = "which Debian's package python3-distributed has"
+        raise Trouble(f"expected Python's distributed for a scheduler, {where}: {error}") from error
 
 
 class There:
@@ -124,8 +125,8 @@ def place_of(scheduler=None, processes=None):
 
 
 def run(commands, place):
-    """Runs commands, each a tag, its words and what it reads, and gives the tag of each with what came of it as it ends: a
-    CompletedProcess, whose outputs are bytes. Commands that are added to the list meanwhile are run too."""
+    """Runs commands, each a tag, its words and what it reads, and gives the tag of each with what came of it as it
+    ends: a CompletedProcess, whose outputs are bytes. Commands that are added to the list meanwhile are run too."""
     try:
         while commands or place.running:
             while commands:

@@ -7,9 +7,9 @@ First it plays the rows of LINUX.md, "Maps" and "Master maps": of each a master 
 the model, and a walk; a row is as told where both do what the page says. Then it makes N masters and maps, of
 S and the numbers behind it (20 of 1, where nothing is said), and for each some walks, leaves and immediate expiries. For each walk it
 prints what automount has mounted and answered beside the model's acts, its answer and what its book says, and
-compares the answers and what is mounted where. With a scheduler of dask the masters and maps are played by commands on its
-workers (tools/spread.py), each root on a kernel of its own, with automount, and with this repository at the same path; the
-rows are played by each of them. Keys that fail to mount have a file system type that there isn't; the model's
+compares the answers and what is mounted where. With a scheduler of dask the masters and maps are played by commands on
+its workers (tools/spread.py), each root on a kernel of its own, with automount, and with this repository at the same
+path; the rows are played by each of them. Keys that fail to mount have a file system type that there isn't; the model's
 mount of them is told to fail. All others are mounted as tmpfs, whose source in mountinfo tells which location was read.
 
 automount runs in a mount and a pid namespace of its own, below a root of its own, with its maps in /etc there.
@@ -446,7 +446,8 @@ def by_chance_there(count, seed, scheduler):
         begin = lines.index(f"== seed {number}") if f"== seed {number}" in lines else 0
         for line in lines[begin:-1] if number > seed else lines[:-1]:
             print(line)
-    print(f"{len(ROWS)} rows, {told[0]} not as told; {count} masters with maps, {told[1]} steps compared, {told[2]} with a difference")
+    rows, masters = f"{len(ROWS)} rows, {told[0]} not as told", f"{count} masters with maps, {told[1]} steps compared"
+    print(f"{rows}; {masters}, {told[2]} with a difference")
     return 1 if told[0] or told[2] else 0
 
 

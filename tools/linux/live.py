@@ -6,9 +6,9 @@ usage: tools/linux/live.py SCRIPT..
 
 Given N, it makes so many scripts, of S and the numbers behind it, and plays them; of one with a difference that isn't
 told it writes the shortest that still has it, to untold-SEED.script. What the scripts don't have: expiries by time, a
-full pipe, timeouts, and acts of an attachment that has ended. With a scheduler of dask each is played by a command on one
-of its workers (tools/spread.py), which is to be root, on a kernel of its own, and needs this repository at the same path;
-`--random 1 --seed SEED` then makes the shortest here.
+full pipe, timeouts, and acts of an attachment that has ended. With a scheduler of dask each is played by a command on
+one of its workers (tools/spread.py), which is to be root, on a kernel of its own, and needs this repository at the same
+path; `--random 1 --seed SEED` then makes the shortest here.
 
 For each event it prints a line: the event, the model's answer, and the kernel's. Behind each event the mounts
 of all namespaces are compared too: who is mounted where, on what, of which file system, in which peer group
@@ -1437,7 +1437,7 @@ def by_chance(program, count, seed):
 
 
 def spread_seeds(name, words, count, seed, scheduler):
-    """Has commands on workers play a seed each, and gives the lines that each wrote, seed by seed as far as they came."""
+    """Has commands on workers play a seed each, and gives the lines that each wrote, seed by seed."""
     begin = ["python3", f"{HERE}/{name}.py", *words, "--random", "1", "--seed"]
     commands = [(it, [*begin, str(it)], b"") for it in range(seed, seed + count)]
     came, bar = {}, spread.Bar()
@@ -1446,7 +1446,8 @@ def spread_seeds(name, words, count, seed, scheduler):
             came[number] = done
             bar.show(len(came), count, " scripts")
             if done.returncode not in (0, 1):
-                raise spread.Trouble(f"seed {number}, on a worker: {done.stderr.decode(errors='replace').strip()[-300:]}")
+                said = done.stderr.decode(errors="replace").strip()[-300:]
+                raise spread.Trouble(f"seed {number}, on a worker: {said}")
         for at in sorted(came):
             yield at, came[at].stdout.decode(errors="replace").splitlines()
     finally:
