@@ -4,9 +4,12 @@ each bound, zero bytes, long lines, broken sections, and heads and events of all
 
 usage: bench/hostile.py FIRST COUNT     plays the scripts of these seeds
        bench/hostile.py SEED            writes the script of a seed
-       bench/hostile.py --serve COUNT   serves the scripts of so many seeds, from 1, and asks behind each line
+       bench/hostile.py --serve [FIRST] COUNT   serves the scripts of so many seeds, from 1, and asks behind each line
        bench/hostile.py long            plays scripts of 64 MiB, and tells the memory that they take
        bench/hostile.py digits          changes each of the 608 digits of a packet that is delivered
+
+With --scheduler ADDRESS behind a COUNT the scripts are played on the workers of dask at that address (tools/spread.py),
+a hundred by each command: a worker needs this repository and the program at the same paths.
 
 PROGRAM in the environment is the path of the program; else it is the one that tools/program.sh
 prints. Each run must end in 20 seconds of processor time with status 0 and nothing on standard error, or with status 1
@@ -16,7 +19,6 @@ reply, behind a fault and a line that is skipped the world and what was seen las
 the first fault must be those of the script.
 """
 
-import functools
 import os
 import random
 import re
@@ -30,11 +32,17 @@ import time
 from concurrent.futures import ThreadPoolExecutor
 
 HERE = os.path.dirname(os.path.abspath(__file__))
+sys.path.insert(0, HERE + "/../tools")
+import spread  # pylint: disable=wrong-import-position
+
 # Of processor time, and then on the clock: other programs may want the processors too.
 SECONDS = 20
 PATIENCE = 600
 LONGEST = 8192
 MANY = 64 << 20
+# How many scripts one command plays on a worker, and what it counts at its end.
+CHUNK = 100
+PLAYED = re.compile(r"\d+ scripts .*?: (?:(\d+) played to their end, )?(\d+) faults told.*\n")
 
 FAULT = re.compile(
     rb"fault: line ([1-9][0-9]*): (BadSection|BadLimits|BadPoint|NoMap|BadType|BadTimeout|Twice|BadKey"
@@ -356,7 +364,7 @@ def play_all(program, first, count):
                 print(f"hostile: seed {seed}: {wrong}", file=sys.stderr)
                 return 1
             faults += status
-    print(f"{count} scripts from seed {first}: {count - faults} played to their end, {faults} faults told")
+    tell_played(first, count, faults)
     return 0
 
 
@@ -472,15 +480,45 @@ def serve(program, seed):
     return seed, served.faults, None
 
 
-def serve_all(program, count):
+def serve_all(program, first, count):
     faults = 0
     with ThreadPoolExecutor(os.cpu_count()) as pool:
-        for seed, told, wrong in pool.map(lambda it: serve(program, it), range(1, count + 1)):
+        for seed, told, wrong in pool.map(lambda it: serve(program, it), range(first, first + count)):
             if wrong:
                 print(f"hostile: seed {seed}: {wrong}", file=sys.stderr)
                 return 1
             faults += told
+    tell_served(count, faults)
+    return 0
+
+
+def tell_played(first, count, faults):
+    print(f"{count} scripts from seed {first}: {count - faults} played to their end, {faults} faults told")
+
+
+def tell_served(count, faults):
     print(f"{count} scripts are served: {faults} faults told, behind each of which all is as before")
+
+
+def spread_all(program, scheduler, words, first, count):
+    """Has commands play so many scripts on workers; tells what is wrong with the first that comes out otherwise."""
+    begin = ["env", f"PROGRAM={program}", "python3", os.path.abspath(__file__), *words]
+    chunks = [(it, min(CHUNK, first + count - it)) for it in range(first, first + count, CHUNK)]
+    commands = [(it, [*begin, str(it), str(size)], b"") for it, size in chunks]
+    came, bar = {}, spread.Bar()
+    try:
+        for at, done in spread.run(commands, spread.place_of(scheduler)):
+            came[at] = done
+            bar.show(len(came), len(chunks), f" times {CHUNK} scripts")
+    finally:
+        bar.end()
+    for _, done in sorted(came.items()):
+        if done.returncode or not PLAYED.fullmatch(done.stdout.decode()):
+            said = done.stderr.decode(errors="replace")
+            sys.stderr.write(said or f"hostile: a command ends with status {done.returncode}\n")
+            return 1
+    faults = sum(int(PLAYED.fullmatch(it.stdout.decode())[2]) for it in came.values())
+    tell_served(count, faults) if words else tell_played(first, count, faults)
     return 0
 
 
@@ -550,22 +588,29 @@ def program_of():
 
 
 def main(words):
-    numbers = [int(it) for it in words[1:] if it.isdecimal()]
-    play = {"long": play_long, "digits": play_digits}.get(" ".join(words[1:]))
-    if words[1:2] == ["--serve"] and len(words) == 3 and len(numbers) == 1:
-        play = functools.partial(serve_all, count=numbers[0])
-        numbers = [1, *numbers]
-    if not play and not (len(numbers) == len(words) - 1 and len(numbers) in (1, 2)):
+    found = re.fullmatch(r"(?:(--serve) )?(?:(\d+) )?(\d+)(?: --scheduler (\S+))?", " ".join(words[1:]))
+    serves, first, count, scheduler = found.groups() if found else (None, None, None, None)
+    alone = {"long": play_long, "digits": play_digits}.get(" ".join(words[1:]))
+    if not alone and not found or scheduler and not first and not serves:
         print("hostile: expected a first seed and a count, one seed, --serve and a count, long, or digits", file=sys.stderr)
         return 2
-    if len(numbers) == 1:
-        sys.stdout.buffer.write(Script(numbers[0]).bytes())
+    if found and not first and not serves:
+        sys.stdout.buffer.write(Script(int(count)).bytes())
         return 0
     program = program_of()
-    if not os.access(program, os.X_OK):
+    if not scheduler and not os.access(program, os.X_OK):
         print("hostile: expected a program that is built: make build", file=sys.stderr)
         return 2
-    return play(program) if play else play_all(program, *numbers)
+    if alone:
+        return alone(program)
+    seeds = int(first or 1), int(count)
+    if not scheduler:
+        return serve_all(program, *seeds) if serves else play_all(program, *seeds)
+    try:
+        return spread_all(program, scheduler, [serves] if serves else [], *seeds)
+    except spread.Trouble as trouble:
+        print(f"hostile: {trouble}", file=sys.stderr)
+        return 2
 
 
 if __name__ == "__main__":

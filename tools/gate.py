@@ -34,7 +34,7 @@ PROOFS = 0.75
 # Behind so many minutes no more planted faults are begun: a gate ends on a slow machine too, and says what it left out.
 LATEST = 110
 # What is run when all is proved.
-REST = ("refuse_all.sh", "commands.py", "examples.sh", "bars.py", "laws.py", "judge.py", "imports.py", "explores.py", "scripts.py", "sweeps.py", "pipes.py", "serve.py", "library.py test",
+REST = ("refuse_all.sh", "commands.py", "examples.sh", "bars.py", "laws.py", "judge.py", "imports.py", "explores.py", "farms.py", "scripts.py", "sweeps.py", "pipes.py", "serve.py", "library.py test",
         "check_pages", "run_pages")
 COUNTS = re.compile(r"^(\d+) passed, (\d+) failed$", re.M)
 

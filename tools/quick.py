@@ -26,7 +26,7 @@ PATIENCE = ("--seconds", "400", "--steps", "1000000000000")
 # The tests that are run once more with an allocation refused, and with which: a build for each.
 REFUSED = (("am_text_tests", 9),)
 # What plays the program that all of these share, which is built once.
-SHARED = ("examples.sh", "bars.py", "pipes.py", "serve.py", "commands.py", "judge.py", "imports.py", "explores.py", "scripts.py", "sweeps.py catatonic death_and_reattachment first", "run_pages")
+SHARED = ("examples.sh", "bars.py", "pipes.py", "serve.py", "commands.py", "judge.py", "imports.py", "explores.py", "farms.py a_failure", "scripts.py", "sweeps.py catatonic death_and_reattachment first", "run_pages")
 
 
 def text_of(path):

@@ -1,13 +1,15 @@
 #!/usr/bin/env python3
 """Drives an installed automount over maps, and compares what it mounts and answers with the model.
 
-usage: tools/linux/daemon.py [--random N [--seed S]]
+usage: tools/linux/daemon.py [--random N [--seed S] [--scheduler ADDRESS]]
 
 First it plays the rows of LINUX.md, "Maps" and "Master maps": of each a master map and a map, read by automount and by
 the model, and a walk; a row is as told where both do what the page says. Then it makes N masters and maps, of
 S and the numbers behind it (20 of 1, where nothing is said), and for each some walks, leaves and immediate expiries. For each walk it
 prints what automount has mounted and answered beside the model's acts, its answer and what its book says, and
-compares the answers and what is mounted where. Keys that fail to mount have a file system type that there isn't; the model's
+compares the answers and what is mounted where. With a scheduler of dask the masters and maps are played by commands on
+its workers (tools/spread.py), each root on a kernel of its own, with automount, and with this repository at the same
+path; the rows are played by each of them. Keys that fail to mount have a file system type that there isn't; the model's
 mount of them is told to fail. All others are mounted as tmpfs, whose source in mountinfo tells which location was read.
 
 automount runs in a mount and a pid namespace of its own, below a root of its own, with its maps in /etc there.
@@ -432,11 +434,30 @@ def steps(dice, made, model, served, seed):
     return count, True
 
 
+LAST = re.compile(r"\d+ rows, (\d+) not as told; \d+ masters with maps, (\d+) steps compared, (\d+) with a difference")
+
+
+def by_chance_there(count, seed, scheduler):
+    """Has workers play so many masters with their maps, and sums up what they tell."""
+    told = [0, 0, 0]
+    for number, lines in live.spread_seeds("daemon", [], count, seed, scheduler):
+        last = LAST.fullmatch(lines[-1])
+        told = [max(told[0], int(last[1])), told[1] + int(last[2]), told[2] + int(last[3])]
+        begin = lines.index(f"== seed {number}") if f"== seed {number}" in lines else 0
+        for line in lines[begin:-1] if number > seed else lines[:-1]:
+            print(line)
+    rows, masters = f"{len(ROWS)} rows, {told[0]} not as told", f"{count} masters with maps, {told[1]} steps compared"
+    print(f"{rows}; {masters}, {told[2]} with a difference")
+    return 1 if told[0] or told[2] else 0
+
+
 def main(words):
-    found = re.fullmatch(r"(?:--random (\d+)(?: --seed (\d+))?)?", " ".join(words[1:]))
+    found = re.fullmatch(r"(?:--random (\d+)(?: --seed (\d+))?(?: --scheduler (\S+))?)?", " ".join(words[1:]))
     if not found:
-        print("daemon: expected nothing, or --random N [--seed S]", file=sys.stderr)
+        print("daemon: expected nothing, or --random N [--seed S] [--scheduler ADDRESS]", file=sys.stderr)
         return 2
+    if found[3]:
+        return live.there("daemon", lambda: by_chance_there(int(found[1]), int(found[2] or 1), found[3]))
     automount = shutil.which("automount", path="/usr/sbin:/sbin:/usr/local/sbin:/usr/bin")
     if not automount:
         print("daemon: expected automount, which Debian's package autofs has", file=sys.stderr)

@@ -2,11 +2,13 @@
 """Plays scripts on the running kernel, and compares what it does with the model, event by event.
 
 usage: tools/linux/live.py SCRIPT..
-       tools/linux/live.py --random N [--seed S]
+       tools/linux/live.py --random N [--seed S] [--scheduler ADDRESS]
 
 Given N, it makes so many scripts, of S and the numbers behind it, and plays them; of one with a difference that isn't
 told it writes the shortest that still has it, to untold-SEED.script. What the scripts don't have: expiries by time, a
-full pipe, timeouts, and acts of an attachment that has ended.
+full pipe, timeouts, and acts of an attachment that has ended. With a scheduler of dask each is played by a command on
+one of its workers (tools/spread.py), which is to be root, on a kernel of its own, and needs this repository at the same
+path; `--random 1 --seed SEED` then makes the shortest here.
 
 For each event it prints a line: the event, the model's answer, and the kernel's. Behind each event the mounts
 of all namespaces are compared too: who is mounted where, on what, of which file system, in which peer group
@@ -49,6 +51,9 @@ import time
 
 HERE = os.path.dirname(os.path.abspath(__file__))
 TOP = f"{HERE}/../.."
+sys.path.insert(0, f"{HERE}/..")
+import spread  # pylint: disable=wrong-import-position
+
 # How long a process may take to come to rest, and how long it must stand still, in seconds.
 PATIENCE, STILL = 120.0, 0.04
 # The numbers of FORMATS.md.
@@ -1431,6 +1436,38 @@ def by_chance(program, count, seed):
     return 1 if "UNTOLD" in told_of else 0
 
 
+def spread_seeds(name, words, count, seed, scheduler):
+    """Has commands on workers play a seed each, and gives the lines that each wrote, seed by seed."""
+    begin = ["python3", f"{HERE}/{name}.py", *words, "--random", "1", "--seed"]
+    commands = [(it, [*begin, str(it)], b"") for it in range(seed, seed + count)]
+    came, bar = {}, spread.Bar()
+    try:
+        for number, done in spread.run(commands, spread.place_of(scheduler)):
+            came[number] = done
+            bar.show(len(came), count, " scripts")
+            if done.returncode not in (0, 1):
+                said = done.stderr.decode(errors="replace").strip()[-300:]
+                raise spread.Trouble(f"seed {number}, on a worker: {said}")
+        for at in sorted(came):
+            yield at, came[at].stdout.decode(errors="replace").splitlines()
+    finally:
+        bar.end()
+
+
+def by_chance_there(count, seed, scheduler):
+    """Has workers play so many scripts, and tells how many of their events were compared."""
+    told_of, events = {}, 0
+    for _, lines in spread_seeds("live", [], count, seed, scheduler):
+        for line in lines[:-1]:
+            print(line)
+        last = re.fullmatch(r"\d+ scripts, (\d+) events compared: (.*)", lines[-1])
+        events += int(last[1])
+        for name, times in (it.rsplit(" ", 1) for it in last[2].split(", ")):
+            told_of[name] = told_of.get(name, 0) + int(times)
+    print(f"{count} scripts, {events} events compared: {', '.join(f'{it} {told_of[it]}' for it in sorted(told_of))}")
+    return 1 if "UNTOLD" in told_of else 0
+
+
 # The command
 
 def lacking():
@@ -1484,15 +1521,26 @@ def prepare(name):
 
 
 def main(words):
-    found = re.fullmatch(r"--random (\d+)(?: --seed (\d+))?", " ".join(words[1:]))
+    found = re.fullmatch(r"--random (\d+)(?: --seed (\d+))?(?: --scheduler (\S+))?", " ".join(words[1:]))
     paths = [] if found else words[1:]
     if not found and (not paths or any(not os.path.isfile(it) for it in paths)):
-        print("live: expected the paths of scripts, or --random N [--seed S]", file=sys.stderr)
+        print("live: expected the paths of scripts, or --random N [--seed S] [--scheduler ADDRESS]", file=sys.stderr)
         return 2
+    if found and found[3]:
+        return there("live", lambda: by_chance_there(int(found[1]), int(found[2] or 1), found[3]))
     model = prepare("live")
     if found:
         return by_chance(model, int(found[1]), int(found[2] or 1))
     return max(played(model, path) for path in paths)
+
+
+def there(name, play):
+    """Plays on workers, or tells why that can't be."""
+    try:
+        return play()
+    except spread.Trouble as trouble:
+        print(f"{name}: {trouble}", file=sys.stderr)
+        return 2
 
 
 if __name__ == "__main__":
