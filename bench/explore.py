@@ -33,7 +33,7 @@ DEATH = ["die", "admincat 2", "reattach 2"]
 #: The scenes of the farm, and how one run and parts of them are bounded.
 FARM = {
     "three_keys": (1_000_000, ()), "death": (1_000_000, ()),
-    "million": (100_000, ("--most", "25000", "--split", "4", "--parts", "5")),
+    "million": (100_000, ("--alike", "--most", "25000", "--split", "4", "--parts", "5")),
 }
 
 

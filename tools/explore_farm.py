@@ -2,17 +2,18 @@
 """Explores a scene by parts, over the processors of this machine, or over those of many, and writes what
 `automount_cli explore` writes.
 
-usage: tools/explore_farm.py [--most STATES] [--split PARTS] [--parts N] [--apart] [--processes N]
+usage: tools/explore_farm.py [--most STATES] [--alike] [--split PARTS] [--parts N] [--processes N]
                              [--scheduler ADDRESS] [--program PATH] SCENE
 
-First the whole scene is searched, over few states. Where that is cut, it is cut into parts, each of which is searched
-by `automount_cli explore --prefix`, over STATES at most (100000); a part that is cut is cut once more. A cut goes
-down level by level, until there are PARTS beginnings (two for each search that runs at once), and of those that are
-alike one is searched: each thread has made the same events with the same answers, the same was observed, and the same
-acts have failed, in another order, and the world's text is the same. So its orders count as often as there are such
-beginnings. With --apart each part is cut by one choice more, into `PREFIX,1`, `PREFIX,2` .., and all are searched,
-alike or not: that rests on nothing but what `explore` writes, and takes longer, by far where parts are cut several
-levels deep.
+First the whole scene is searched, over few states. Where that is cut, it is cut by one choice more into the parts `1`,
+`2` .., each of which is searched by `automount_cli explore --prefix`, over STATES at most (100000); a part that is cut
+is cut once more, into `PREFIX,1`, `PREFIX,2` .. . What is told rests on nothing but what `explore` writes of each part.
+
+With --alike a cut goes down level by level, until there are PARTS beginnings (two for each search that runs at once),
+and of those that are alike one is searched: each thread has made the same events with the same answers, the same was
+observed, and the same acts have failed, in another order, and the world's text is the same. So its orders count as
+often as there are such beginnings. That this is the same state is tested, and no theorem; it takes less time, by far
+where parts are cut several levels deep.
 
 After N searches (100000) no more is begun, and what is left isn't seen. With --scheduler the searches run on the
 workers of dask at ADDRESS (tools/spread.py); else N processes run here, as many as there are processors. The program
@@ -181,7 +182,7 @@ class Farm:
 
     def cut(self, part, choices):
         """Cuts a part that has so many choices, and has its parts searched."""
-        if self.words.apart:
+        if not self.words.alike:
             found = [Part((*part.prefix, it)) for it in range(1, choices + 1)]
             part.parts = list(enumerate(found, 1))
         else:
@@ -376,7 +377,7 @@ def read(words):
     parser = Words(add_help=False, allow_abbrev=False)
     for name, usual in (("most", 100_000), ("split", None), ("parts", 100_000), ("processes", None)):
         parser.add_argument(f"--{name}", type=count, default=usual)
-    parser.add_argument("--apart", action="store_true")
+    parser.add_argument("--alike", action="store_true")
     parser.add_argument("--scheduler")
     parser.add_argument("--program")
     parser.add_argument("scene")

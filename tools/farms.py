@@ -34,7 +34,7 @@ FARM, FOLDER, PATIENCE = "tools/explore_farm.py", "examples/explore", 300
 #: The scene that is explored on workers, and isn't seen whole: one of few states.
 LEFT = "a_failure"
 #: Which part of a scene's states one search looks at, and how its parts are cut.
-CUTS = ((2, "--split 4"), (6, "--split 2"), (5, "--split 30"), (3, "--apart"))
+CUTS = ((2, "--alike --split 4"), (6, "--alike --split 2"), (5, "--alike --split 30"), (3, ""))
 WORKERS = 3
 #: A program that is slow enough to kill a worker meanwhile, and tells that it has begun.
 SLOW = "#!/bin/sh\necho begun >> {room}/begun\nsleep 0.3\nexec {program} \"$@\"\n"
@@ -109,7 +109,7 @@ def fault_of_refusal(words, status, told, **how):
 def fault_of_left(program):
     """What is wrong where not all parts are searched, if something is."""
     path = path_of(LEFT)
-    status, wrote, said = ran(["--parts", "2", "--most", "8", "--split", "2", "--program", program, path])
+    status, wrote, said = ran(["--alike", "--parts", "2", "--most", "8", "--split", "2", "--program", program, path])
     findings, last = order.findings(wrote)
     told = {it for it in findings.values() if isinstance(it, str)}
     is_so = status == 3 and not said and re.fullmatch(r"# not all seen, parts [01]", last)
@@ -184,7 +184,7 @@ def fault_on_workers(program, python, room):
         file.write(SLOW.format(room=room, program=program))
     os.chmod(f"{room}/slow", 0o755)
     with dask(python, room) as (address, workers):
-        words = ["--most", "4", "--split", "2", "--scheduler", address, "--program", f"{room}/slow", path]
+        words = ["--alike", "--most", "4", "--split", "2", "--scheduler", address, "--program", f"{room}/slow", path]
         how = {"stdout": subprocess.PIPE, "stderr": subprocess.PIPE, "text": True}
         with subprocess.Popen([python, FARM, *words], **how) as farm:
             try:
