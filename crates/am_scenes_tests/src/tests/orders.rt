@@ -1,7 +1,7 @@
 //! What every order of a scene comes to, as its questions ask.
 
 use crate::tests::table::{Row, good, hold};
-use am_explore::{Found, explore};
+use am_explore::{Found, Unwatched, explore};
 use am_names::Errno;
 use am_scenes::{Asked, Claim, Told};
 use std::alloc::Global;
@@ -14,7 +14,15 @@ struct Text(&'static [u8]);
 
 /// Whether a question comes out as asked.
 fn is_as_asked(alloc: Global, told: &Told, asked: &Asked) -> Result<bool, Errno> {
-    let seen = explore(alloc, &told.world, &told.scene, &asked.question, MOST)?;
+    let mut watch = Unwatched;
+    let seen = explore(
+        alloc,
+        &told.world,
+        &told.scene,
+        &asked.question,
+        MOST,
+        &mut watch,
+    )?;
     let as_asked = match (&seen.found, asked.claim) {
         (Found::Order { .. }, Claim::Sometimes) => true,
         (Found::Never, Claim::Never) => true,
