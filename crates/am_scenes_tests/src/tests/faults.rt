@@ -208,7 +208,7 @@ fn services_rows() -> &'static [Text] {
     &SERVICES
 }
 
-static QUESTIONS: [Text; 9] = [
+static QUESTIONS: [Text; 17] = [
     Text::Bad(b"sometimes\n", 9, SceneFaultKind::BadQuestion),
     Text::Bad(b"never a\n", 9, SceneFaultKind::NoSuchThread),
     Text::Bad(
@@ -245,6 +245,27 @@ static QUESTIONS: [Text; 9] = [
         b"thread a\nleave 1\nend\nnever a waiting\nnever a 01 *\n",
         13,
         SceneFaultKind::NoSuchEvent,
+    ),
+    // A thread's name is no line's first word.
+    Text::Bad(
+        b"thread 1\nleave 1\nend\nnever 1 0:1\n",
+        12,
+        SceneFaultKind::NoSuchEvent,
+    ),
+    Text::Bad(b"sometimes *x 1\n", 9, SceneFaultKind::NoSuchThread),
+    Text::Bad(b"never -1\n", 9, SceneFaultKind::NoSuchThread),
+    Text::Bad(b"always\n", 9, SceneFaultKind::BadQuestion),
+    Text::Bad(b"always x 1\n", 9, SceneFaultKind::BadQuestion),
+    Text::Bad(
+        b"thread a\nend\nalways a waiting\n",
+        11,
+        SceneFaultKind::BadQuestion,
+    ),
+    Text::Bad(b"always 1\nthread a\nend\n", 10, SceneFaultKind::LateLine),
+    Text::Bad(
+        b"thread a\nalways 1\nend\n",
+        10,
+        SceneFaultKind::BadThreadEvent,
     ),
 ];
 
