@@ -1,6 +1,6 @@
 -- Where a line of a scene isn't as expected, by its fault: own choice (docs/FORMATS.md, "Places of
 -- faults").
-use Rattle.std.specs.Prelude.{◌≡◌, ⊤, ℕ, ◌+◌, Bool, false, true, nat_lt, is_some, List, [], ◌∷◌, length, drop, codes, bytes_eq, Option, None}
+use Rattle.std.specs.Prelude.{◌≡◌, ⊤, ℕ, ◌+◌, Bool, false, true, is_some, List, [], ◌∷◌, drop, codes, bytes_eq, Option, None}
 use Rattle.std.specs.Prelude.{Some, if◌then◌else◌}
 use Rattle.std.specs.Option.{option_map}
 use Rattle.am_lines.specs.{words_of}
@@ -30,7 +30,8 @@ in_thread_line misfit = wanted_at misfit.place (wanted.InScript misfit.expected)
 
 -- there are words behind the first
 abbrev pub has_two : Words → Bool
-has_two words = nat_lt 1 (length words)
+has_two (word ∷ other ∷ words) = true
+has_two words = false
 
 -- of `thread` with its words: its name, or the end behind that
 abbrev pub thread_misfit : Words → SceneMisfit

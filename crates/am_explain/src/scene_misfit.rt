@@ -1,6 +1,6 @@
 //! The word of a scene's line that isn't as expected.
 
-ghost use Rattle.std.specs.Prelude.{◌≡◌, is_some, drop};
+ghost use Rattle.std.specs.Prelude.{◌≡◌, ◌≤◌, is_some, length, drop};
 ghost use Rattle.am_lines.specs.{words_of};
 ghost use Rattle.am_script.specs.EventWords.{failure_read};
 ghost use Rattle.am_diagnosis.specs.Heads.{begins_with_word};
@@ -39,7 +39,8 @@ fn end() -> SceneExpected
 
 /// What stands behind the first word.
 fn behind_first(line: &[u8]) -> &[u8]
-    ensures { words_of result.now ≡ drop 1 (words_of line.now) }
+    ensures words { words_of result.now ≡ drop 1 (words_of line.now) }
+    ensures short { length result.now ≤ length line.now }
 {
     match next_word(line) {
         Some((_, words)) => words,
@@ -51,7 +52,13 @@ fn behind_first(line: &[u8]) -> &[u8]
 fn has_two(line: &[u8]) -> bool
     ensures { result ≡ has_two (words_of line.now) }
 {
-    next_word(behind_first(line)).is_some()
+    let Some((_, words)) = next_word(line) else {
+        return false;
+    };
+    if let Some(_) = next_word(words) {
+        return true;
+    }
+    false
 }
 
 /// Of `thread` with its words: its name, or the end behind that.

@@ -1,6 +1,6 @@
 //! The first fault of a text, and its line.
 
-use crate::tests::table::{HEAD, Row, fault_without_memory, hold, read};
+use crate::tests::table::{HEAD, Row, fault_of, fault_without_memory, hold};
 use am_names::Errno;
 use am_scenes::{SceneFault, SceneFaultKind};
 use am_script::ScriptFaultKind;
@@ -20,18 +20,6 @@ enum Text {
     Long(&'static [u8], usize, Option<u64>),
     /// The number of a fault, and its words at a line.
     Number(SceneFaultKind, u8, u64, &'static str),
-}
-
-fn fault_of(
-    alloc: Global,
-    head: &[u8],
-    text: &[u8],
-    broke: Option<ScriptFaultKind>,
-) -> Result<Option<SceneFault>, Errno> {
-    match read(alloc, head, text, broke)? {
-        Ok(_) => Ok(None),
-        Err(fault) => Ok(Some(fault)),
-    }
 }
 
 /// Whether this fault was found.

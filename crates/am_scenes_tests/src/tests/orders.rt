@@ -72,7 +72,7 @@ static ORDERS: [Text; 6] = [
         b"thread ann\nwalk 1 0 /auto/ada 5 room\nresume 1 6 room\nend\nserve daemon fail 2\nalways 1 1 0:1 / / rw - plain none rw\nalways # namespace 0\nsometimes # made fs 2 name ada\nnever # namespace 1\nsometimes 3 2 * / /auto/ada rw - plain none rw\nsometimes # fail 2 at * fs 2 name ada\nnever 3 2 * / /auto/bob rw - plain none rw\nnever 1 1 0:1\nnever 4 *\n",
     ),
     Text(
-        b"thread ann\nmount 0 /a\nend\nthread bob\nmount 0 /a/b\nend\nalways # namespace 0\nalways * 1 * / /a rw - plain none rw\nsometimes 3 1 * / /a rw - plain none rw\nsometimes 2 1 * / /a rw - plain none rw\n",
+        b"thread ann\nmount 0 /a\nend\nthread bob\nmount 0 /a/b\nend\nalways # namespace 0\nalways * 1 * / /a rw - plain none rw\nsometimes 3 1 * / /a rw - plain none rw\nsometimes 4 1 * / /a rw - plain none rw\n",
     ),
 ];
 
