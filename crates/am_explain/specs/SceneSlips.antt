@@ -5,12 +5,12 @@ use Rattle.std.specs.Prelude.{Some, if◌then◌else◌}
 use Rattle.std.specs.Option.{option_map}
 use Rattle.am_lines.specs.{words_of}
 use Rattle.am_script.specs.EventWords.{failure_read}
-use Rattle.am_diagnosis.specs.Columns.{IsColumn}
+use Rattle.am_diagnosis.specs.Columns.{IsColumn, IsSlipOf}
 use Rattle.am_diagnosis.specs.Events.{event_misfit}
 use Rattle.am_diagnosis.specs.Heads.{begins_with_word}
 use Rattle.am_diagnosis.specs.Misfits.{Words}
 use Rattle.am_diagnosis.specs.declared.expected.Expected.TheVariants.{End, SectionEnd}
-use Rattle.am_diagnosis.specs.declared.misfit.Misfit.{Misfit}
+use Rattle.am_diagnosis.specs.declared.expected.Slip.{Slip}
 use Rattle.am_scenes.specs.{SceneFaultKind}
 use Rattle.am_scenes.specs.declared.fault.SceneFaultKind.TheVariants as kinds
 use Rattle.am_explain.specs.declared.scene_expected.SceneExpected.{SceneExpected}
@@ -23,10 +23,6 @@ use Rattle.am_explain.specs.declared.scene_misfit.SceneMisfit.{SceneMisfit}
 -- at this place, from 0, this was expected
 abbrev pub wanted_at : ℕ → SceneExpected → SceneMisfit
 wanted_at place expected = record { place = place; expected = expected }
-
--- where a line of an event isn't as expected, the line of a thread isn't
-abbrev pub in_thread_line : Misfit → SceneMisfit
-in_thread_line misfit = wanted_at misfit.place (wanted.InScript misfit.expected)
 
 -- there are words behind the first
 abbrev pub has_two : Words → Bool
@@ -84,23 +80,20 @@ service_misfit place expected (word ∷ words) =
 
 -- ---- faults
 
--- where the words of a line with this fault aren't as expected
+-- where the words of a line with this fault aren't as expected, if it is one of such words
 abbrev pub scene_misfit : SceneFaultKind → Words → Option SceneMisfit
-scene_misfit (kinds.Script kind) words = None
-scene_misfit kinds.NoEvents words = None
 scene_misfit kinds.BadLine words = Some (wanted_at 0 wanted.SceneLine)
 scene_misfit kinds.LateLine words = Some (wanted_at 0 wanted.LaterLine)
 scene_misfit kinds.BadThread words = Some (thread_misfit words)
 scene_misfit kinds.ThreadTwice words = Some (wanted_at 1 wanted.FreeName)
 scene_misfit kinds.NoEnd words = Some (wanted_at 0 (wanted.InScript SectionEnd))
-scene_misfit kinds.BadThreadEvent words = option_map in_thread_line (event_misfit words)
 scene_misfit kinds.BadService words = service_misfit 1 wanted.Daemon (drop 1 words)
 scene_misfit kinds.ServiceTwice words = Some (wanted_at 0 wanted.ServedLine)
 scene_misfit kinds.BadQuestion words = Some (question_misfit words)
 scene_misfit kinds.NoSuchThread words = Some (wanted_at 1 wanted.KnownThread)
 scene_misfit kinds.NoSuchEvent words = Some (number_misfit words)
 scene_misfit kinds.BadAnswer words = Some (wanted_at 3 wanted.Answer)
-scene_misfit kinds.NoMemory words = None
+scene_misfit kind words = None
 
 -- where the line has this misfit, or none, its slip is this one, or none
 abbrev pub IsSceneSlipOf : List ℕ → Option SceneMisfit → Option SceneSlip → Type 0
@@ -109,8 +102,22 @@ IsSceneSlipOf line None (Some slip) = ⊥
 IsSceneSlipOf line (Some misfit) None = ⊥
 IsSceneSlipOf line (Some misfit) (Some slip) = IsColumn line misfit.place slip.column × (slip.expected ≡ misfit.expected)
 
+-- a slip of a script's line, as a scene's
+abbrev pub in_scene : Slip → SceneSlip
+in_scene slip = record { column = slip.column; expected = wanted.InScript slip.expected }
+
+-- the slip of a line of a thread, or none, is that of an event's line
+abbrev pub IsThreadSlip : List ℕ → Option SceneSlip → Type 0
+IsThreadSlip line slip =
+    (own : Option Slip) × IsSlipOf line (event_misfit (words_of line)) own × (slip ≡ option_map in_scene own)
+
+-- the slip of a line with this fault, or none
+abbrev pub IsLineSlip : SceneFaultKind → List ℕ → Option SceneSlip → Type 0
+IsLineSlip kinds.BadThreadEvent line slip = IsThreadSlip line slip
+IsLineSlip kind line slip = IsSceneSlipOf line (scene_misfit kind (words_of line)) slip
+
 -- the slip of a fault of this kind, but for those of a script, which is told at the first of these
 -- lines, or none
 abbrev pub IsSceneSlip : SceneFaultKind → List (List ℕ) → Option SceneSlip → Type 0
 IsSceneSlip kind [] slip = slip ≡ None
-IsSceneSlip kind (line ∷ below) slip = IsSceneSlipOf line (scene_misfit kind (words_of line)) slip
+IsSceneSlip kind (line ∷ below) slip = IsLineSlip kind line slip

@@ -1,12 +1,10 @@
 //! Where a line of a scene isn't as expected, by its fault.
 
 ghost use Rattle.std.specs.Prelude.{◌≡◌, Some};
-ghost use Rattle.std.specs.Option.{option_map};
 ghost use Rattle.am_lines.specs.{words_of};
 ghost use Rattle.am_script.specs.Lines.{lines_of};
-ghost use Rattle.am_diagnosis.specs.Events.{event_misfit};
 ghost use Rattle.am_scenes.specs.declared.fault.SceneFaultKind.TheVariants.{BadService};
-ghost use Rattle.am_explain.specs.SceneSlips.{in_thread_line, IsSceneSlip, IsSceneSlipOf, scene_misfit, wanted_at};
+ghost use Rattle.am_explain.specs.SceneSlips.{IsLineSlip, IsSceneSlip, IsSceneSlipOf, IsThreadSlip, scene_misfit, wanted_at};
 
 use crate::scene_expected::{SceneExpected, SceneSlip};
 use crate::scene_misfit::{
@@ -35,8 +33,7 @@ fn slip_at(line: &[u8], place: usize, expected: SceneExpected) -> Option<SceneSl
 
 /// The slip of a line of a thread that is no event, as an event's.
 fn thread_line_slip(line: &[u8]) -> Option<SceneSlip>
-    ensures { IsSceneSlipOf line.now
-        (option_map in_thread_line (event_misfit (words_of line.now))) result }
+    ensures { IsThreadSlip line.now result }
 {
     match event_slip(line) {
         Some(slip) => Some(SceneSlip {
@@ -61,7 +58,7 @@ fn service_slip(line: &[u8]) -> Option<SceneSlip>
 
 /// The slip of a line with this fault, if it has one.
 fn line_slip(kind: SceneFaultKind, line: &[u8]) -> Option<SceneSlip>
-    ensures { IsSceneSlipOf line.now (scene_misfit kind (words_of line.now)) result }
+    ensures { IsLineSlip kind line.now result }
 {
     match kind {
         SceneFaultKind::BadLine => slip_at(line, 0, SceneExpected::SceneLine),
