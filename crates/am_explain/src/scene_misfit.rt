@@ -1,8 +1,7 @@
 //! The word of a scene's line that isn't as expected.
 
-ghost use Rattle.std.specs.Prelude.{◌≡◌, ◌≤◌, is_some, length, drop};
+ghost use Rattle.std.specs.Prelude.{◌≡◌, ◌≤◌, length, drop};
 ghost use Rattle.am_lines.specs.{words_of};
-ghost use Rattle.am_script.specs.EventWords.{failure_read};
 ghost use Rattle.am_diagnosis.specs.Heads.{begins_with_word};
 ghost use Rattle.am_diagnosis.specs.declared.expected.Expected.TheVariants.{End};
 ghost use Rattle.am_explain.specs.SceneSlips.{early_misfit, has_two, number_misfit, question_misfit, served_behind, serves_at_end, serves_with, service_misfit, thread_misfit, wanted_at};

@@ -1,6 +1,6 @@
 //! Where a line of a scene isn't as expected, by its fault.
 
-ghost use Rattle.std.specs.Prelude.{◌≡◌, Some};
+ghost use Rattle.std.specs.Prelude.{Some};
 ghost use Rattle.am_lines.specs.{words_of};
 ghost use Rattle.am_script.specs.Lines.{lines_of};
 ghost use Rattle.am_scenes.specs.declared.fault.SceneFaultKind.TheVariants.{BadService};
