@@ -21,7 +21,7 @@ number_of (c ∷ cs) choice (inr later) = let found = number_of cs choice later 
 
 is_in : (choices : List Choice) (i : ℕ) (choice : Choice) → slice_get choices i ≡ Some choice → IsIn choice choices
 is_in [] i choice here = absurd cc
-is_in (c ∷ cs) zero choice here = inl (sym (same_Some here))
+is_in (c ∷ cs) zero choice here = inl (sym (same_Some c choice here))
 is_in (c ∷ cs) (suc i) choice here = inr (is_in cs i choice here)
 
 numbered_in : (choices : List Choice) (number : ℕ) (choice : Choice) → numbered number choices ≡ Some choice
@@ -91,14 +91,14 @@ not_taken : (scene : Scene) (a : Stand) (number : ℕ) (choice : Choice)
     → numbered number (choices_at scene a) ≡ Some choice → IsNoStep scene a choice →
     (other : Choice) (answer : Answer) (b : Stand) → IsTaken scene a number other answer b → ⊥
 not_taken scene a number choice is none other answer b taken =
-    let same : other ≡ choice = same_Some (sym taken.chosen ∙ is) in
+    let same : other ≡ choice = same_Some other choice (sym taken.chosen ∙ is) in
     none answer b (subst (λ (z : Choice). IsMade scene a z answer b) same taken.made)
 
 -- what is taken leads to one place
 same_taken : (scene : Scene) (a : Stand) (number : ℕ) (choice other : Choice) (answer next : Answer) (b c : Stand)
     → IsTaken scene a number choice answer b → IsTaken scene a number other next c → b ≡ c
 same_taken scene a number choice other answer next b c one more =
-    let same : choice ≡ other = same_Some (sym one.chosen ∙ more.chosen) in
+    let same : choice ≡ other = same_Some choice other (sym one.chosen ∙ more.chosen) in
     same_made scene a other answer next b c (subst (λ (z : Choice). IsMade scene a z answer b) same one.made) more.made
 
 pub none_taken : (scene : Scene) (a : Stand) (numbers : List ℕ) (i number : ℕ) (choices : List Choice)
