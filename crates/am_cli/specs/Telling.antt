@@ -3,6 +3,7 @@ use Rattle.std.specs.Prelude.{◌<◌, ◌∷◌, ℕ, List, [], codes, decimal,
 use Rattle.std.specs.List.{flat_map}
 use Rattle.std.specs.Io.KnownBytes.{Appends}
 use Rattle.am_explain.specs.{HelpsWith}
+use Rattle.am_explore.specs.{Tally}
 use Rattle.am_findings.specs.{ExploreFault}
 use Rattle.am_findings.specs.declared.explore.ExploreFault.TheVariants as unexplored
 use Rattle.am_import.specs.{ImportFault}
@@ -83,11 +84,23 @@ scene_word of_scene.NoMemory = codes "NoMemory"
 abbrev pub scene_told : SceneFault → List ℕ
 scene_told fault = line_told fault.line (scene_word fault.kind) []
 
+-- what is told where there is no choice of the number at this place of a prefix
+abbrev pub choice_told : ℕ → List ℕ
+choice_told place = flat_map (λ part. part) (codes "fault: prefix " ∷ decimal place ∷ codes ": NoSuchChoice\n" ∷ [])
+
 -- what is told where a scene isn't explored, or what was found isn't written
 abbrev pub explore_told : ExploreFault → List ℕ
 explore_told (unexplored.Scene fault) = scene_told fault
+explore_told (unexplored.NoSuchChoice place) = choice_told place
 explore_told unexplored.NoMemory = word_told (codes "NoMemory")
 explore_told unexplored.WriteFailed = word_told (codes "WriteFailed")
+
+-- how far a search is, as it is told on a terminal
+abbrev pub tally_told : Tally → List ℕ
+tally_told tally =
+    flat_map (λ part. part)
+    (codes "explore: states " ∷ decimal tally.states ∷ codes ", orders " ∷ decimal tally.orders
+    ∷ codes ", ends " ∷ decimal tally.ends ∷ codes "\n" ∷ [])
 
 -- ---- the faults of a trace that is to be judged
 

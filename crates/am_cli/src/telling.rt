@@ -4,11 +4,12 @@ ghost use Rattle.std.specs.Prelude.{◌≡◌, true, false};
 ghost use Rattle.std.specs.List.{flat_map};
 ghost use Rattle.std.specs.Io.KnownBytes.{Appends};
 ghost use Rattle.am_cli.specs.Hints.{hint_told, usage_told};
-ghost use Rattle.am_cli.specs.Telling.{explore_told, import_told, IsCut, judge_told, line_told, mount_words, place_told, scene_told, scene_word, script_told, Tells, TellsFault, trace_words, word_told};
+ghost use Rattle.am_cli.specs.Telling.{choice_told, explore_told, import_told, IsCut, judge_told, line_told, mount_words, place_told, scene_told, scene_word, script_told, tally_told, Tells, TellsFault, trace_words, word_told};
 
 use crate::help::usage;
 use crate::hints::Hint;
 use am_explain::help;
+use am_explore::Tally;
 use am_findings::ExploreFault;
 use am_import::ImportFault;
 use am_mount_lines::Expected as MountExpected;
@@ -187,12 +188,49 @@ fn tell_scene<E: Write>(errors: &mut E, fault: SceneFault)
     tell_line(errors, fault.line, scene_word(fault.kind), b"");
 }
 
+/// Tells that there is no choice of the number at this place of a prefix.
+fn tell_choice<E: Write>(errors: &mut E, place: usize)
+    ensures { Tells (E.contents errors.old) (E.contents errors.new) (choice_told place) }
+{
+    let mut digits = Buffer::new();
+    tell(
+        errors,
+        &[
+            b"fault: prefix ",
+            digits.format(place).as_bytes(),
+            b": NoSuchChoice\n",
+        ],
+    );
+}
+
+/// Tells how far a search is.
+pub(crate) fn tell_tally<E: Write>(errors: &mut E, tally: &Tally)
+    ensures { Tells (E.contents errors.old) (E.contents errors.new) (tally_told tally.now) }
+{
+    let mut states = Buffer::new();
+    let mut orders = Buffer::new();
+    let mut ends = Buffer::new();
+    tell(
+        errors,
+        &[
+            b"explore: states ",
+            states.format(tally.states).as_bytes(),
+            b", orders ",
+            orders.format(tally.orders).as_bytes(),
+            b", ends ",
+            ends.format(tally.ends).as_bytes(),
+            b"\n",
+        ],
+    );
+}
+
 /// Tells why a scene isn't explored, or what was found isn't written.
 pub(crate) fn tell_explore<E: Write>(errors: &mut E, fault: ExploreFault)
     ensures { Tells (E.contents errors.old) (E.contents errors.new) (explore_told fault) }
 {
     match fault {
         ExploreFault::Scene { fault } => tell_scene(errors, fault),
+        ExploreFault::NoSuchChoice { place } => tell_choice(errors, place),
         ExploreFault::NoMemory => tell_word(errors, "NoMemory"),
         ExploreFault::WriteFailed => tell_word(errors, "WriteFailed"),
     }
