@@ -9,7 +9,7 @@ use Rattle.am_explore.specs.declared.scene.Scene.{Scene}
 use Rattle.am_explore.specs.declared.search.Found.{Found}
 use Rattle.am_explore.specs.declared.search.Found.TheVariants as founds
 use Rattle.am_explore.specs.declared.search.Ahead.{Ahead}
-use Rattle.am_explore.specs.Findings.{IsFound, MeetsFirst, MeetsIn, NoneMeets}
+use Rattle.am_explore.specs.Findings.{IsFound, MeetsFirst, MeetsIn, NoneBelow, NoneMeets}
 use Rattle.am_explore.specs.Levels.{AllOf, AreNodesAhead, Counts, Grows, HasLike, IsLevel, IsLike, IsNodeAt, IsOrderTo, IsPassed, OneMeetsIn, node_stand}
 use Rattle.am_explore.specs.Orders.{IsEnd, IsOrder, IsStep, Stand}
 use Rattle.am_explore.specs.Questions.{Meets}
@@ -159,7 +159,16 @@ order_found scene question start level i node (founds.Order choices answers) h i
     subst (λ (z : List Choice). MeetsFirst scene question start z answers.items) (sym to.0)
     (subst (λ (z : List Answer). MeetsFirst scene question start node.choices.items z) (sym to.1) (first_found scene question start level i node h is ends meets l))
 order_found scene question start level i node founds.Never h is ends meets to l = elim to [ ]
-order_found scene question start level i node founds.Cut h is ends meets to l = elim to [ ]
+order_found scene question start level i node (founds.Cut below) h is ends meets to l = elim to [ ]
+
+-- orders that meet the question are no shorter than those that lead to a level
+pub none_below : (scene : Scene) (question : Question) (start : Stand) (level : List Node) (i : ℕ) (node : Node) → i < length level → node ≡ get_or level i node →
+    IsLevel scene question start level → NoneBelow scene question start (length node.choices.items)
+none_below scene question start level i node h is l steps m =
+    let at : IsNodeAt scene start l.depth node = AllOf_at (IsNodeAt scene start l.depth) level i node h is l.nodes_at in
+    let long : steps ≡ l.depth + (l.through steps m).0 = (l.through steps m).1 in
+    let depth : length node.choices.items ≡ l.depth = at.long in
+    omega arith
 
 pub none_found : (scene : Scene) (question : Question) (start : Stand) → IsLevel scene question start [] → NoneMeets scene question start
 none_found scene question start l steps m = (l.through steps m).2

@@ -1,3 +1,5 @@
 mod ListLemmas
 mod OrderLemmas
 mod LevelLemmas
+mod WorldLemmas
+mod LeadLemmas

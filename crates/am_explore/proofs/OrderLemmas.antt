@@ -1,6 +1,6 @@
 -- Orders: they go on step by step, and don't rest on what was observed.
-use Rattle.std.proofs.Common.{◌≡◌, false, List, [], ◌∷◌, ◌++◌, length, refl, sym, ap, subst, ◌∙◌, inl, inr, arith}
-use Rattle.std.specs.Prelude.{ℕ, slice_get}
+use Rattle.std.proofs.Common.{◌≡◌, true, false, List, [], ◌∷◌, ◌++◌, length, refl, sym, ap, subst, ◌∙◌, inl, inr, arith}
+use Rattle.std.specs.Prelude.{ℕ, ◌+◌, ◌≤◌, slice_get}
 use Rattle.std.specs.Option.{IsSomeAnd}
 use Rattle.std.proofs.lemmas.Bool.{false≢true}
 use Rattle.am_state.specs.{Obs}
@@ -11,7 +11,7 @@ use Rattle.am_world.specs.{HaveEqualHalves, IsAlike}
 use Rattle.am_world.proofs.BehindLemmas.{outcome_traced, traced}
 use Rattle.am_explore.specs.declared.choice.Choice.{Choice}
 use Rattle.am_explore.specs.declared.question.Question.{Question}
-use Rattle.am_explore.specs.declared.question.Question.TheVariants.{Answered, Waiting}
+use Rattle.am_explore.specs.declared.question.Question.TheVariants.{Answered, Waiting, Shows, Lacks}
 use Rattle.am_explore.specs.declared.scene.Scene.{Scene}
 use Rattle.am_explore.specs.Answers.{is_no_memory, is_step}
 use Rattle.am_explore.specs.Choices.{choices_of}
@@ -20,6 +20,7 @@ use Rattle.am_explore.specs.Levels.{IsLike}
 use Rattle.am_explore.specs.Orders.{IsEnd, IsIn, IsMade, IsOrder, IsStep, Stand, choices_at, events_in}
 use Rattle.am_explore.specs.Questions.{HasAnswer, HasLeft, Meets}
 use Rattle.am_explore.specs.Standings.{Standing, moved}
+use Rattle.am_explore.proofs.WorldLemmas.{like_text}
 
 -- an event comes to the same, whatever was observed
 no_trace : (s t : State) (event : Event) → HaveEqualHalves s t → IsAlike (outcome_of s event) (outcome_of t event)
@@ -125,6 +126,8 @@ like_meets scene (Answered thread event sought) a c like meets =
     subst (λ (z : List Standing). IsSomeAnd (slice_get z thread) (λ (s : Standing). HasAnswer event sought s.heard)) like.threads meets
 like_meets scene (Waiting thread) a c like meets =
     subst (λ (z : List Standing). IsSomeAnd (slice_get z thread) (λ (s : Standing). IsSomeAnd (slice_get scene.threads.items thread) (λ (events : List Event). HasLeft events s))) like.threads meets
+like_meets scene (Shows line) a c like meets = like_text line.items a.state c.state true like.halves meets
+like_meets scene (Lacks line) a c like meets = like_text line.items a.state c.state false like.halves meets
 
 -- an order that meets the question is one from each stand that is alike
 pub like_meets_in : (scene : Scene) (question : Question) (a c : Stand) (steps : ℕ) → IsLike a c → MeetsIn scene question a steps → MeetsIn scene question c steps
@@ -183,3 +186,16 @@ never_by_parts scene question start here behind (choice ∷ choices) (answer ∷
     behind choice answer leads.0 leads.1 (length choices) (record { choices = choices; answers = answers; end = end; leads = leads.2; ends = ends; meets = meets; long = refl })
 never_by_parts scene question start here behind [] (answer ∷ answers) end leads ends meets = elim leads [ ]
 never_by_parts scene question start here behind (choice ∷ choices) [] end leads ends meets = elim leads [ ]
+
+-- a shortest order has one event more than one from where a first step leads
+pub first_by_parts : (scene : Scene) (question : Question) (start : Stand) (steps : ℕ) → (IsEnd scene start → Meets scene question start → ⊥) →
+    ((choice : Choice) (answer : Answer) (mid : Stand) → IsStep scene start choice answer mid → (left : ℕ) → MeetsIn scene question mid left → steps ≤ left) →
+    (choices : List Choice) (answers : List Answer) (end : Stand) → IsOrder scene start choices answers end → IsEnd scene end → Meets scene question end → steps + 1 ≤ length choices
+first_by_parts scene question start steps here behind [] [] end leads ends meets =
+    absurd (here (subst (λ (z : Stand). IsEnd scene z) leads ends) (subst (λ (z : Stand). Meets scene question z) leads meets))
+first_by_parts scene question start steps here behind (choice ∷ choices) (answer ∷ answers) end leads ends meets =
+    let few : steps ≤ length choices =
+    behind choice answer leads.0 leads.1 (length choices) (record { choices = choices; answers = answers; end = end; leads = leads.2; ends = ends; meets = meets; long = refl }) in
+    omega (arith, few)
+first_by_parts scene question start steps here behind [] (answer ∷ answers) end leads ends meets = elim leads [ ]
+first_by_parts scene question start steps here behind (choice ∷ choices) [] end leads ends meets = elim leads [ ]

@@ -1,10 +1,10 @@
 -- A search in parts: own choice (docs/DECISIONS.md, "All orders of a scene").
-use Rattle.std.specs.Prelude.{◌≡◌, ◌≤◌, ◌+◌, ◌↔◌, ℕ, List, ◌++◌, length}
+use Rattle.std.specs.Prelude.{◌≡◌, ◌+◌, ◌↔◌, ℕ, List, ◌++◌, length}
 use Rattle.am_machine.specs.{Answer}
 use Rattle.am_explore.specs.declared.choice.Choice.{Choice}
 use Rattle.am_explore.specs.declared.scene.Scene.{Scene}
 use Rattle.am_explore.specs.declared.question.Question.{Question}
-use Rattle.am_explore.specs.Findings.{MeetsIn, NoneMeets}
+use Rattle.am_explore.specs.Findings.{NoneBelow, NoneMeets}
 use Rattle.am_explore.specs.Leads.{AreTaken}
 use Rattle.am_explore.specs.Orders.{IsEnd, IsOrder, IsStep, Stand}
 use Rattle.am_explore.specs.Questions.{Meets}
@@ -24,13 +24,13 @@ PartsTellNever =
     (scene : Scene) (question : Question) (start : Stand) → (IsEnd scene start → Meets scene question start → ⊥) →
     ((choice : Choice) (answer : Answer) (mid : Stand) → IsStep scene start choice answer mid → NoneMeets scene question mid) → NoneMeets scene question start
 
--- As many steps lead from here to an end that meets the question, and one more, as lead to one from where a first step
--- leads: where no first step leads to where fewer do, and this is no end that meets it, none leads to one by fewer.
+-- Where behind no first step an order with fewer steps than these meets the question, and this is no end that does, none
+-- from here does with fewer than one more.
 abbrev pub PartsTellFirst : Type 0
 PartsTellFirst =
-    (scene : Scene) (question : Question) (start : Stand) (steps : ℕ) → (IsEnd scene start → Meets scene question start → ⊥) →
-    ((choice : Choice) (answer : Answer) (mid : Stand) → IsStep scene start choice answer mid → (left : ℕ) → MeetsIn scene question mid left → steps ≤ left) →
-    (left : ℕ) → MeetsIn scene question start left → steps + 1 ≤ left
+    (scene : Scene) (question : Question) (start : Stand) (below : ℕ) → (IsEnd scene start → Meets scene question start → ⊥) →
+    ((choice : Choice) (answer : Answer) (mid : Stand) → IsStep scene start choice answer mid → NoneBelow scene question mid below) →
+    NoneBelow scene question start (below + 1)
 
 -- each order is one of numbers of choices, and what is one of numbers is an order
 abbrev pub HaveNumbers : Type 0

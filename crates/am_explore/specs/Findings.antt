@@ -34,15 +34,19 @@ pub record MeetsFirst (scene : Scene) (question : Question) (start : Stand) (cho
 abbrev pub NoneMeets : Scene → Question → Stand → Type 0
 NoneMeets scene question start = (steps : ℕ) → MeetsIn scene question start steps → ⊥
 
--- a search that was cut says nothing of orders
+-- each order to an end that meets the question has as many steps as these, or more
+abbrev pub NoneBelow : Scene → Question → Stand → ℕ → Type 0
+NoneBelow scene question start below = (steps : ℕ) → MeetsIn scene question start steps → below ≤ steps
+
+-- a search that was cut has seen all orders with fewer steps than it says
 abbrev pub IsFound : Scene → Question → Stand → Found → Type 0
 IsFound scene question start (founds.Order choices answers) = MeetsFirst scene question start choices.items answers.items
 IsFound scene question start founds.Never = NoneMeets scene question start
-IsFound scene question start founds.Cut = Unit {0}
+IsFound scene question start (founds.Cut below) = NoneBelow scene question start below
 
 -- it was cut where there were more states than these
 abbrev pub IsFull : ℕ → Found → Tally → Type 0
-IsFull most founds.Cut tally = most ≤ tally.states
+IsFull most (founds.Cut below) tally = most ≤ tally.states
 IsFull most _ tally = Unit {0}
 
 -- no more than so many states are looked at, and a search that was cut has met as many

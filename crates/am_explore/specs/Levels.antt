@@ -113,7 +113,7 @@ pub record Counts (old new : Ahead) : Type 0 where
 abbrev pub IsOrderTo : Node → Found → Type 0
 IsOrderTo node (founds.Order choices answers) = (choices.items ≡ node.choices.items) × (answers.items ≡ node.answers.items)
 IsOrderTo node founds.Never = ⊥
-IsOrderTo node founds.Cut = ⊥
+IsOrderTo node (founds.Cut below) = ⊥
 
 -- a node was passed: its steps lead on, and it is no end that meets the question
 pub record IsPassed (scene : Scene) (question : Question) (nodes : List Node) (node : Node) : Type 0 where

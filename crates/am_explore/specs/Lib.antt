@@ -12,7 +12,7 @@ pub mod Cuts
 pub use Answers.{is_no_memory, is_resume, is_step, is_wait, resumes}
 pub use Choices.{acts, choices_of, daemon_choices, deliveries, next_of, thread_choices}
 pub use Cuts.{AreCut, HaveNumbers, PartsTellFirst, PartsTellNever}
-pub use Findings.{IsFound, IsTallied, MeetsFirst, MeetsIn, NoneMeets}
+pub use Findings.{IsFound, IsTallied, MeetsFirst, MeetsIn, NoneBelow, NoneMeets}
 pub use Leads.{AreTaken, IsLed, IsMissing, IsTaken, NoneTaken, numbered}
 pub use Orders.{IsEnd, IsIn, IsMade, IsOrder, IsStep, Stand, begun_at, choices_at, events_in, stand_of}
 pub use Questions.{Fits, HasAnswer, HasLeft, Meets}

@@ -14,8 +14,9 @@ pub fn parts_tell_never()
     ensures { PartsTellNever }
 {}
 
-/// What is found first in the parts is found first: where each first step leads to where a shortest order has at least
-/// so many steps, and the beginning is no end that meets the question, a shortest one from there has one more at least.
+/// What is shortest in the parts is shortest, but for the first step: where behind each first step no order that is
+/// shorter than so many events meets a question, and the beginning is no end that does, none from there does that is
+/// shorter than these and one.
 pub fn parts_tell_first()
     ensures { PartsTellFirst }
 {}

@@ -1,6 +1,6 @@
 //! The search of all orders, breadth first.
 
-ghost use Rattle.std.specs.Prelude.{◌≡◌, ◌≤◌, [], IfOk, IfSome, IfNone, OnOk};
+ghost use Rattle.std.specs.Prelude.{◌≡◌, ◌≤◌, [], length, IfOk, IfSome, IfNone, OnOk};
 ghost use Rattle.am_world.specs.Capacity.{state_of};
 ghost use Rattle.am_explore.specs.Findings.{IsFound, IsTallied, IsFull};
 ghost use Rattle.am_explore.specs.Levels.{node_stand, Counts, Grows, IsVisited, IsLooked, IsLevel, IsOrderTo};
@@ -31,8 +31,11 @@ pub enum Found {
     },
     /// No order to an end meets the question.
     Never,
-    /// There were more states than the search was to look at.
-    Cut,
+    /// There were more states than the search was to look at. Of orders with fewer events than these all were seen, and
+    /// none meets the question.
+    Cut {
+        below: usize,
+    },
 }
 
 /// What a search has met until it ended: where it found an order, it ended there.
@@ -161,6 +164,15 @@ fn order_to(alloc: Global, node: &Node) -> Result<Found, AllocError>
     })
 }
 
+/// What is found where a search is cut at a state: all orders were seen that are shorter than the one that leads there.
+fn cut_at(node: &Node) -> Found
+    ensures { result ≡ Found.Cut (length node.now.choices.items) }
+{
+    Found::Cut {
+        below: node.choices.len(),
+    }
+}
+
 /// Makes all choices of all states of a level. What is found ends the search.
 fn turn<P: Watch>(
     alloc: Global,
@@ -186,7 +198,7 @@ fn turn<P: Watch>(
         let orders = level.orders_at(index);
         watch.saw(&ahead.tally);
         match look(alloc, scene, node, orders, ahead)? {
-            Looked::Cut => return Ok(Some(Found::Cut)),
+            Looked::Cut => return Ok(Some(cut_at(node))),
             Looked::GoesOn => {}
             Looked::End => {
                 if node.begun.meets(alloc, scene, question)? {
@@ -338,7 +350,7 @@ pub fn explore_from<P: Watch>(
 /// What is seen where no state is to be looked at.
 fn nothing_seen() -> Seen
     ensures { result ≡ (record {
-      found = Found.Cut;
+      found = Found.Cut 0;
       tally = record {
         orders = 0;
         states = 0;
@@ -349,7 +361,7 @@ fn nothing_seen() -> Seen
     }) }
 {
     Seen {
-        found: Found::Cut,
+        found: Found::Cut { below: 0 },
         tally: Tally {
             orders: 0,
             states: 0,

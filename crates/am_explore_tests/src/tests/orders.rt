@@ -35,7 +35,7 @@ fn events_of(alloc: Global, world: &mut World, found: &Found) -> Result<Option<u
             }
         }
         Found::Never => Ok(None),
-        Found::Cut => Err(Errno::ENOSPC),
+        Found::Cut { .. } => Err(Errno::ENOSPC),
     }
 }
 
@@ -140,7 +140,7 @@ fn cut_at(alloc: Global, staged: &Staged, most: u64) -> Result<Option<u64>, Errn
         &mut Unwatched,
     )?;
     match &seen.found {
-        Found::Cut => Ok(Some(seen.tally.states)),
+        Found::Cut { .. } => Ok(Some(seen.tally.states)),
         Found::Order { .. } | Found::Never => Ok(None),
     }
 }
@@ -171,7 +171,7 @@ fn arrival(alloc: Global) -> Result<Option<usize>, Errno> {
     )?;
     match &seen.found {
         Found::Order { choices, .. } => Ok(Some(choices.len())),
-        Found::Never | Found::Cut => Ok(None),
+        Found::Never | Found::Cut { .. } => Ok(None),
     }
 }
 
