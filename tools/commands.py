@@ -35,7 +35,7 @@ COMMAND_LINES_THERE_ARE = b"""usage: automount_cli script|serve|judge|import < F
        automount_cli trace [--plain] < FILE
        automount_cli draw [--from N] [--to N] < FILE
        automount_cli world [--namespace N] < FILE
-       automount_cli explore [--most N] < FILE
+       automount_cli explore [--most N] [--prefix CHOICES] < FILE
        automount_cli threads [--walkers N] [--workers N] [--rounds N]
        automount_cli help [COMMAND]
        automount_cli --version

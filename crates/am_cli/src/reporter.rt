@@ -8,6 +8,7 @@ use std::io::{IsTerminal, Write};
 use std::time::{Clock, Duration, Instant};
 
 /// Tells on a terminal, each second, how far a search is, and nowhere else.
+#[derive(Drop)]
 pub struct Reporter<'a, C: Clock, E: Write> {
     clock: &'a C,
     errors: E,

@@ -1,5 +1,5 @@
 -- How findings are written: own choice (docs/FORMATS.md, "Findings").
-use Rattle.std.specs.Prelude.{ℕ, List, [], ◌∷◌, ◌++◌, length, codes, decimal}
+use Rattle.std.specs.Prelude.{ℕ, ◌+◌, List, [], ◌∷◌, ◌++◌, length, codes, decimal}
 use Rattle.std.specs.List.{flat_map}
 use Rattle.am_explore.specs.{Choice, Found, Seen, Tally}
 use Rattle.am_explore.specs.declared.search.Found.TheVariants as founds
@@ -23,11 +23,16 @@ abbrev pub found_order_text : List Choice → List ℕ
 found_order_text choices =
     codes ": yes, events " ++ (decimal (length choices) ++ (codes "\n" ++ order_text choices))
 
+-- not all was seen: that no order that begins with these choices and has fewer steps behind them meets the question
+abbrev pub unseen_text : List Choice → ℕ → List ℕ
+unseen_text first below =
+    codes ": not all seen, no order of fewer than " ++ (decimal (length first + below) ++ codes " events\n")
+
 -- what was found of a question, where orders begin with these choices: with an order all its events, as lines of a script
 abbrev pub finding_text : List Choice → Asked → Found → List ℕ
 finding_text first asked (founds.Order choices answers) = asked_part asked ++ found_order_text (first ++ choices.items)
 finding_text first asked founds.Never = asked_part asked ++ codes ": no order\n"
-finding_text first asked founds.Cut = asked_part asked ++ codes ": not all seen\n"
+finding_text first asked (founds.Cut below) = asked_part asked ++ unseen_text first below
 
 -- what was found of all questions, in their order
 abbrev pub answers_text : List Choice → List Asked → List Seen → List ℕ
@@ -47,7 +52,7 @@ cut_text left tally =
 
 -- the last line: what was met, or that the search was cut
 abbrev pub count_by : ℕ → Found → Tally → List ℕ
-count_by left founds.Cut tally = cut_text left tally
+count_by left (founds.Cut below) tally = cut_text left tally
 count_by left _ tally = tally_text tally
 
 -- the last line, of what was seen

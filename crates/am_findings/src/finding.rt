@@ -1,7 +1,7 @@
 //! What was found, as a text.
 
-ghost use Rattle.std.specs.Prelude.{◌≡◌, ◌++◌, decimal, OnOk};
-ghost use Rattle.am_findings.specs.Texts.{asked_part, count_text, cut_text, finding_text, found_order_text, order_text, tally_text};
+ghost use Rattle.std.specs.Prelude.{◌≡◌, ◌+◌, ◌++◌, decimal, OnOk};
+ghost use Rattle.am_findings.specs.Texts.{asked_part, count_text, cut_text, finding_text, found_order_text, order_text, tally_text, unseen_text};
 
 use am_explore::{Choice, Found, Seen, Tally};
 use am_scenes::Asked;
@@ -24,6 +24,15 @@ fn push_length(text: &mut Vec<u8>, length: usize) -> Result<(), AllocError>
 {
     let mut digits = Buffer::new();
     text.extend_from_slice(digits.format(length).as_bytes())?;
+    Ok(())
+}
+
+/// Adds the sum of two lengths.
+fn push_sum(text: &mut Vec<u8>, first: usize, second: usize) -> Result<(), AllocError>
+    ensures { OnOk result (text.new.items ≡ text.old.items ++ decimal (first + second)) }
+{
+    let mut digits = Buffer::new();
+    text.extend_from_slice(digits.format(first as u128 + second as u128).as_bytes())?;
     Ok(())
 }
 
@@ -56,10 +65,21 @@ fn push_found_order(
         ++ found_order_text (first.now ++ choices.now)) }
 {
     text.extend_from_slice(b": yes, events ")?;
-    push_length(text, first.len() + choices.len())?;
+    push_sum(text, first.len(), choices.len())?;
     text.push(b'\n')?;
     push_order(text, first)?;
     push_order(text, choices)
+}
+
+/// Adds that not all was seen, and that no order that begins with these choices and has fewer steps behind them meets
+/// the question.
+fn push_unseen(text: &mut Vec<u8>, first: &[Choice], below: usize) -> Result<(), AllocError>
+    ensures { OnOk result (text.new.items ≡ text.old.items ++ unseen_text first.now below) }
+{
+    text.extend_from_slice(b": not all seen, no order of fewer than ")?;
+    push_sum(text, first.len(), below)?;
+    text.extend_from_slice(b" events\n")?;
+    Ok(())
 }
 
 /// Adds what was found of a question, where orders begin with these choices.
@@ -82,10 +102,7 @@ pub(crate) fn push_finding(
             text.extend_from_slice(b": no order\n")?;
             Ok(())
         }
-        Found::Cut => {
-            text.extend_from_slice(b": not all seen\n")?;
-            Ok(())
-        }
+        Found::Cut { below } => push_unseen(text, first, *below),
     }
 }
 
@@ -121,7 +138,7 @@ fn push_cut(text: &mut Vec<u8>, left: usize, tally: &Tally) -> Result<(), AllocE
 pub(crate) fn push_count(text: &mut Vec<u8>, left: usize, seen: &Seen) -> Result<(), AllocError>
     ensures { OnOk result (text.new.items ≡ text.old.items ++ count_text left seen.now) }
 {
-    if let Found::Cut = seen.found {
+    if let Found::Cut { below: _ } = seen.found {
         return push_cut(text, left, &seen.tally);
     }
     push_tally(text, &seen.tally)
