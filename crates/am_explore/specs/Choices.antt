@@ -20,7 +20,8 @@ next_of n (event ∷ later) = record { who = who.Thread n; event = event } ∷ [
 
 -- the next event of each thread from this number on
 abbrev pub thread_choices : ℕ → List (List Event) → List Standing → List Choice
-thread_choices n (events ∷ threads) (s ∷ standings) = next_of n (drop s.next events) ++ thread_choices (n + 1) threads standings
+thread_choices n (events ∷ threads) (s ∷ standings) = next_of n (drop s.next events)
+    ++ thread_choices (n + 1) threads standings
 thread_choices n [] standings = []
 thread_choices n threads [] = []
 

@@ -13,7 +13,8 @@ use Rattle.am_explore.specs.Questions.{Meets}
 -- stands that as many choices lead to are all orders that are as long or longer.
 abbrev pub AreCut : Type 0
 AreCut =
-    (scene : Scene) (start : Stand) (first later : List Choice) (told next : List Answer) (end : Stand) → length first ≡ length told →
+    (scene : Scene) (start : Stand) (first later : List Choice) (told next : List Answer) (end : Stand)
+    → length first ≡ length told →
     IsOrder scene start (first ++ later) (told ++ next) end
     ↔ ((mid : Stand) × IsOrder scene start first told mid × IsOrder scene mid later next end)
 
@@ -22,14 +23,17 @@ AreCut =
 abbrev pub PartsTellNever : Type 0
 PartsTellNever =
     (scene : Scene) (question : Question) (start : Stand) → (IsEnd scene start → Meets scene question start → ⊥) →
-    ((choice : Choice) (answer : Answer) (mid : Stand) → IsStep scene start choice answer mid → NoneMeets scene question mid) → NoneMeets scene question start
+    ((choice : Choice) (answer : Answer) (mid : Stand) → IsStep scene start choice answer mid
+    → NoneMeets scene question mid) → NoneMeets scene question start
 
--- Where behind no first step an order with fewer steps than these meets the question, and this is no end that does, none
--- from here does with fewer than one more.
+-- Where behind no first step an order with fewer steps than these meets the question, and this is no end that does,
+-- none from here does with fewer than one more.
 abbrev pub PartsTellFirst : Type 0
 PartsTellFirst =
-    (scene : Scene) (question : Question) (start : Stand) (below : ℕ) → (IsEnd scene start → Meets scene question start → ⊥) →
-    ((choice : Choice) (answer : Answer) (mid : Stand) → IsStep scene start choice answer mid → NoneBelow scene question mid below) →
+    (scene : Scene) (question : Question) (start : Stand) (below : ℕ)
+    → (IsEnd scene start → Meets scene question start → ⊥) →
+    ((choice : Choice) (answer : Answer) (mid : Stand) → IsStep scene start choice answer mid
+    → NoneBelow scene question mid below) →
     NoneBelow scene question start (below + 1)
 
 -- each order is one of numbers of choices, and what is one of numbers is an order

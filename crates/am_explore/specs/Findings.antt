@@ -22,7 +22,8 @@ pub record MeetsIn (scene : Scene) (question : Question) (a : Stand) (steps : �
 
 -- This order leads to an end that meets the question, and none that does is shorter. It is a run of the
 -- machine.
-pub record MeetsFirst (scene : Scene) (question : Question) (start : Stand) (choices : List Choice) (answers : List Answer) : Type 0 where
+pub record MeetsFirst (scene : Scene) (question : Question) (start : Stand) (choices : List Choice)
+    (answers : List Answer) : Type 0 where
   pub end : Stand
   pub leads : IsOrder scene start choices answers end
   pub ends : IsEnd scene end
@@ -40,7 +41,8 @@ NoneBelow scene question start below = (steps : ℕ) → MeetsIn scene question 
 
 -- a search that was cut has seen all orders with fewer steps than it says
 abbrev pub IsFound : Scene → Question → Stand → Found → Type 0
-IsFound scene question start (founds.Order choices answers) = MeetsFirst scene question start choices.items answers.items
+IsFound scene question start (founds.Order choices answers) = MeetsFirst scene question start choices.items
+    answers.items
 IsFound scene question start founds.Never = NoneMeets scene question start
 IsFound scene question start (founds.Cut below) = NoneBelow scene question start below
 

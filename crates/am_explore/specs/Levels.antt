@@ -48,12 +48,14 @@ AreNodesAt scene start depth nodes = AllOf (IsNodeAt scene start depth) nodes
 -- an order of so many steps leads from one of the nodes to an end that meets the question
 abbrev pub OneMeetsIn : Scene → Question → List Node → ℕ → Type 0
 OneMeetsIn scene question [] steps = ⊥
-OneMeetsIn scene question (node ∷ nodes) steps = MeetsIn scene question (node_stand node) steps ⊎ OneMeetsIn scene question nodes steps
+OneMeetsIn scene question (node ∷ nodes) steps = MeetsIn scene question (node_stand node) steps
+    ⊎ OneMeetsIn scene question nodes steps
 
 -- each order that meets the question goes on from one of these nodes after so many steps
 abbrev pub GoThrough : Scene → Question → Stand → ℕ → List Node → Type 0
 GoThrough scene question start depth nodes =
-    (steps : ℕ) → MeetsIn scene question start steps → (left : ℕ) × (steps ≡ depth + left) × OneMeetsIn scene question nodes left
+    (steps : ℕ) → MeetsIn scene question start steps
+    → (left : ℕ) × (steps ≡ depth + left) × OneMeetsIn scene question nodes left
 
 -- a level of a search that began here: orders lead to its nodes, and those that meet the question go
 -- through them
@@ -64,16 +66,19 @@ pub record IsLevel (scene : Scene) (question : Question) (start : Stand) (nodes 
 
 -- where orders of one length lead to the nodes of a level, those of the next length lead to these
 abbrev pub AreNodesAhead : Scene → List Node → List Node → Type 0
-AreNodesAhead scene level nodes = (start : Stand) (depth : ℕ) → AreNodesAt scene start depth level → AreNodesAt scene start (suc depth) nodes
+AreNodesAhead scene level nodes = (start : Stand) (depth : ℕ) → AreNodesAt scene start depth level
+    → AreNodesAt scene start (suc depth) nodes
 
 -- one level follows from the other
 abbrev pub IsSameSearch : Scene → Question → List Node → List Node → Type 0
-IsSameSearch scene question level nodes = (start : Stand) → IsLevel scene question start level → IsLevel scene question start nodes
+IsSameSearch scene question level nodes = (start : Stand) → IsLevel scene question start level
+    → IsLevel scene question start nodes
 
 -- the next level grows by what comes of a node
 pub record Grows (scene : Scene) (node : Node) (old new : List Node) : Type 0 where
   pub likes : (b : Stand) → HasLike old b → HasLike new b
-  pub orders : (start : Stand) (depth : ℕ) → IsNodeAt scene start depth node → AreNodesAt scene start (suc depth) old → AreNodesAt scene start (suc depth) new
+  pub orders : (start : Stand) (depth : ℕ) → IsNodeAt scene start depth node → AreNodesAt scene start (suc depth) old
+      → AreNodesAt scene start (suc depth) new
 
 -- no choice is made past the greatest number of states
 abbrev pub IsUsedUp : Ahead → Type 0
@@ -95,7 +100,8 @@ IsVisited scene a choice ahead visits.Full = IsUsedUp ahead
 
 -- each step from here leads to a node
 abbrev pub Follows : Scene → Stand → List Node → Type 0
-Follows scene a nodes = (choice : Choice) (answer : Answer) (b : Stand) → IsStep scene a choice answer b → HasLike nodes b
+Follows scene a nodes = (choice : Choice) (answer : Answer) (b : Stand) → IsStep scene a choice answer b
+    → HasLike nodes b
 
 -- what was seen of all choices
 abbrev pub IsLooked : Scene → Stand → Ahead → Looked → Type 0
@@ -111,7 +117,8 @@ pub record Counts (old new : Ahead) : Type 0 where
 
 -- what is found is the order that leads to a node
 abbrev pub IsOrderTo : Node → Found → Type 0
-IsOrderTo node (founds.Order choices answers) = (choices.items ≡ node.choices.items) × (answers.items ≡ node.answers.items)
+IsOrderTo node (founds.Order choices answers) = (choices.items ≡ node.choices.items)
+    × (answers.items ≡ node.answers.items)
 IsOrderTo node founds.Never = ⊥
 IsOrderTo node (founds.Cut below) = ⊥
 

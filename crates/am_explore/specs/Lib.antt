@@ -20,7 +20,7 @@ pub use WorldLines.{TextHas, has_line, words_fit}
 pub use Standings.{Standing, first_of, first_standings, moved, next_after, went}
 pub use declared.choice.Choice.{Choice}
 pub use declared.choice.Who.{Who}
-pub use declared.lead.Led.{Led}
+pub use declared.led.Led.{Led}
 pub use declared.question.Question.{Question}
 pub use declared.question.Sought.{Sought}
 pub use declared.scene.Scene.{Scene}

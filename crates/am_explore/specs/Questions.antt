@@ -1,5 +1,6 @@
 -- What is asked of the end of an order: own choice (docs/DECISIONS.md, "All orders of a scene").
-use Rattle.std.specs.Prelude.{◌≡◌, ◌⊎◌, ◌<◌, ℕ, Bool, true, false, IsTrue, List, [], ◌∷◌, Option, Some, None, length, slice_get}
+use Rattle.std.specs.Prelude.{◌≡◌, ◌⊎◌, ◌<◌, ℕ, Bool, true, false, IsTrue, List, [], ◌∷◌, Option, Some, None, length}
+use Rattle.std.specs.Prelude.{slice_get}
 use Rattle.std.specs.Option.{IsSomeAnd}
 use Rattle.am_machine.specs.{Answer, Event}
 use Rattle.am_machine.specs.declared.answer.Answer.TheVariants as answers
@@ -47,6 +48,7 @@ abbrev pub Meets : Scene → Question → Stand → Type 0
 Meets scene (questions.Answered thread event sought) a =
     IsSomeAnd (slice_get a.threads thread) (λ (s : Standing). HasAnswer event sought s.heard)
 Meets scene (questions.Waiting thread) a =
-    IsSomeAnd (slice_get a.threads thread) (λ (s : Standing). IsSomeAnd (slice_get scene.threads.items thread) (λ (events : List Event). HasLeft events s))
+    IsSomeAnd (slice_get a.threads thread)
+    (λ (s : Standing). IsSomeAnd (slice_get scene.threads.items thread) (λ (events : List Event). HasLeft events s))
 Meets scene (questions.Shows line) a = TextHas line.items a.state true
 Meets scene (questions.Lacks line) a = TextHas line.items a.state false

@@ -6,7 +6,7 @@ mod answers;
 pub mod begun;
 pub mod choice;
 pub mod laws;
-pub mod lead;
+pub mod led;
 mod level;
 pub mod question;
 pub mod scene;
@@ -18,7 +18,7 @@ mod worlds;
 
 pub use begun::{Begun, Made, begin, choices, make};
 pub use choice::{Choice, Who};
-pub use lead::{Led, lead};
+pub use led::{Led, lead};
 pub use question::{Question, Sought};
 pub use scene::{Scene, Service, Thread};
 pub use search::{Found, Seen, Tally, explore, explore_from};

@@ -1,6 +1,6 @@
 //! Lines of the world's text.
 
-ghost use Rattle.std.specs.Prelude.{◌≡◌, None, option_copied, IfOk};
+ghost use Rattle.std.specs.Prelude.{◌≡◌, ◌∷◌, None, option_copied, IfOk};
 ghost use Rattle.am_lines.specs.{words_of};
 ghost use Rattle.am_script.specs.{lines_in, lines_of};
 ghost use Rattle.am_world.specs.Capacity.{state_of};

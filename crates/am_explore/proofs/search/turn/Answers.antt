@@ -12,9 +12,13 @@ returns-then-meets-clause-found c = λ start l.
     let level = c.args.level.now.nodes.items in
     let i = c.loop-index.index in
     let node = c.node-item.result in
-    let is : node ≡ get_or level i node = subst (λ (z : List Node). node ≡ get_or z i node) c.deref-node-items.ensures.value c.node-item.is in
-    let below : i < length level = subst (λ (z : List Node). i < length z) c.deref-node-items.ensures.value c.loop-index-test.true in
-    order_found c.args.scene.now c.args.question.now start level i node c.in_ok-order_to-in-End.field-0 below is (rw c.in-End.is at c.in_ok-look.ensures.seen) (c.if-meets.ensures.0 refl)
+    let is : node
+    ≡ get_or level i node = subst (λ (z : List Node). node ≡ get_or z i node) c.deref-node-items.ensures.value
+    c.node-item.is in
+    let below : i < length level = subst (λ (z : List Node). i < length z) c.deref-node-items.ensures.value
+    c.loop-index-test.true in
+    order_found c.args.scene.now c.args.question.now start level i node c.in_ok-order_to-in-End.field-0 below is
+    (rw c.in-End.is at c.in_ok-look.ensures.seen) (c.if-meets.ensures.0 refl)
     c.in_ok-order_to-in-End.ensures l
 
 pub loop-index-preserved : goal.loop-index-preserved
@@ -26,8 +30,11 @@ loop-index-preserved c =
     let next = c.look.new.ahead.next.nodes.items in
     let i = c.loop-index.index in
     let node = c.node-item.result in
-    let is : node ≡ get_or level i node = subst (λ (z : List Node). node ≡ get_or z i node) c.deref-node-items.ensures.value c.node-item.is in
-    let below : i < length level = subst (λ (z : List Node). i < length z) c.deref-node-items.ensures.value c.loop-index-test.true in
+    let is : node
+    ≡ get_or level i node = subst (λ (z : List Node). node ≡ get_or z i node) c.deref-node-items.ensures.value
+    c.node-item.is in
+    let below : i < length level = subst (λ (z : List Node). i < length z) c.deref-node-items.ensures.value
+    c.loop-index-test.true in
     let grows = c.in_ok-look.ensures.grows in
     let passed : IsPassed scene question next node =
     elim c.match-branch-2.branch [
@@ -43,7 +50,8 @@ loop-index-preserved c =
     ] in
     record {
       orders = ahead_more scene level old next i node below is grows c.loop-index.invariant.orders;
-      counts = counts_then c.args.ahead.now c.loop-index.ahead c.look.new.ahead c.loop-index.invariant.counts c.in_ok-look.ensures.counts;
+      counts = counts_then c.args.ahead.now c.loop-index.ahead c.look.new.ahead c.loop-index.invariant.counts
+          c.in_ok-look.ensures.counts;
       passed = pass_more scene question level old next i node below is grows passed c.loop-index.invariant.passed;
     }
 
@@ -53,4 +61,5 @@ returns-clause-goes_on c = λ start l.
     let next = c.loop-index.ahead.next.nodes.items in
     next_level c.args.scene.now c.args.question.now start level next c.loop-index.invariant.orders
     (subst (λ (z : List Node). AllOf (IsPassed c.args.scene.now c.args.question.now next) z)
-    (take_all c.loop-index.index level (omega (arith, c.deref-node-items.ensures.len, c.args.level.now.nodes.ok.0))) c.loop-index.invariant.passed) l
+    (take_all c.loop-index.index level (omega (arith, c.deref-node-items.ensures.len, c.args.level.now.nodes.ok.0)))
+    c.loop-index.invariant.passed) l

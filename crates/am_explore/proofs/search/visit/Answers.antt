@@ -13,9 +13,12 @@ returns-then-merges-clause-seen c =
     let made = rw c.in-Some.is at c.in_ok-made.ensures in (
       λ answer b other.
           subst (λ (z : Stand). HasLike c.merges.new.self.nodes.items z)
-          (same_made c.args.scene.now a c.args.choice.now c.in-Some.made.answer answer (stand_of c.in-Some.made.begun) b made other)
-          (subst (λ (v : Vec Node Global). HasLike v.items (stand_of c.in-Some.made.begun)) (sym c.merges.ensures.nodes) c.if-merges.ensures.like),
-      λ ends. ends c.args.choice.now c.in-Some.made.answer (stand_of c.in-Some.made.begun) (record { chosen = c.requires.chosen; made = made }),
+          (same_made c.args.scene.now a c.args.choice.now c.in-Some.made.answer answer (stand_of c.in-Some.made.begun) b
+          made other)
+          (subst (λ (v : Vec Node Global). HasLike v.items (stand_of c.in-Some.made.begun)) (sym c.merges.ensures.nodes)
+          c.if-merges.ensures.like),
+      λ ends. ends c.args.choice.now c.in-Some.made.answer (stand_of c.in-Some.made.begun)
+          (record { chosen = c.requires.chosen; made = made }),
     )
 
 pub returns-clause-seen : goal.returns-clause-seen
@@ -28,8 +31,10 @@ returns-clause-seen c =
           (like_pushed c.merges.new.self.nodes.items child b
           (like_same (node_stand child) b
           (ap stand_of c.in_ok-child_of.ensures.begun
-          ∙ same_made c.args.scene.now a c.args.choice.now c.in-Some.made.answer answer (stand_of c.in-Some.made.begun) b made other))),
-      λ ends. ends c.args.choice.now c.in-Some.made.answer (stand_of c.in-Some.made.begun) (record { chosen = c.requires.chosen; made = made }),
+          ∙ same_made c.args.scene.now a c.args.choice.now c.in-Some.made.answer answer (stand_of c.in-Some.made.begun)
+          b made other))),
+      λ ends. ends c.args.choice.now c.in-Some.made.answer (stand_of c.in-Some.made.begun)
+          (record { chosen = c.requires.chosen; made = made }),
     )
 
 pub returns-clause-grows : goal.returns-clause-grows

@@ -21,17 +21,22 @@ loop-n-preserved c =
           let s = w.index-standings-n.result in
           let is_one : is_of_thread n who ≡ true = sym c.is_of_thread.ensures ∙ w.if-is_of_thread.true in
           rw c.in_ok-push.ensures.items
-          (moved_more c.loop-n.all.items threads standings n who answer events s c.if-is_of_thread.progress in_threads in_standings w.index-threads-n.is w.index-standings-n.is
-          (w.progress-is ∙ w.in_ok-progress.ensures ∙ sym (ap (λ (b : Bool). if b then went events answer s else s) is_one)) ∙ c.loop-n.invariant)
+          (moved_more c.loop-n.all.items threads standings n who answer events s c.if-is_of_thread.progress in_threads
+          in_standings w.index-threads-n.is w.index-standings-n.is
+          (w.progress-is ∙ w.in_ok-progress.ensures
+          ∙ sym (ap (λ (b : Bool). if b then went events answer s else s) is_one)) ∙ c.loop-n.invariant)
       | else-is_of_thread+in_ok-progress-2 w ↦
           let events = get_or threads n [] in
           let s = w.index-standings-n-else-is_of_thread.result in
           let is_none : is_of_thread n who ≡ false = sym c.is_of_thread.ensures ∙ w.if-is_of_thread.false in
           rw c.in_ok-push.ensures.items
-          (moved_more c.loop-n.all.items threads standings n who answer events s c.if-is_of_thread.progress in_threads in_standings (get_or_default threads n [] events in_threads) w.index-standings-n-else-is_of_thread.is
-          (w.progress-is ∙ w.in_ok-progress-2.ensures ∙ sym (ap (λ (b : Bool). if b then went events answer s else s) is_none)) ∙ c.loop-n.invariant)
+          (moved_more c.loop-n.all.items threads standings n who answer events s c.if-is_of_thread.progress in_threads
+          in_standings (get_or_default threads n [] events in_threads) w.index-standings-n-else-is_of_thread.is
+          (w.progress-is ∙ w.in_ok-progress-2.ensures
+          ∙ sym (ap (λ (b : Bool). if b then went events answer s else s) is_none)) ∙ c.loop-n.invariant)
     ]
 
 pub returns : goal.returns
 returns c =
-    sym (moved_given c.loop-n.all.items c.args.threads.now c.args.standings.now c.loop-n.n c.args.who c.args.answer.now (one_ended _ _ _ (omega arith))) ∙ c.loop-n.invariant
+    sym (moved_given c.loop-n.all.items c.args.threads.now c.args.standings.now c.loop-n.n c.args.who c.args.answer.now
+    (one_ended _ _ _ (omega arith))) ∙ c.loop-n.invariant

@@ -9,4 +9,5 @@ pub returns-then-is_like : goal.returns-then-is_like
 returns-then-is_like c =
     let b = stand_of c.args.begun.now in
     subst (λ (z : List Node). HasLike z b) c.deref.ensures.value
-    (like_at c.deref.result.now _ c.in-Some.node.now b c.in-Some.ensures.lookup.3.0 c.in-Some.ensures.lookup.1 (c.if-is_like.ensures.0 refl))
+    (like_at c.deref.result.now _ c.in-Some.node.now b c.in-Some.ensures.lookup.3.0 c.in-Some.ensures.lookup.1
+    (c.if-is_like.ensures.0 refl))

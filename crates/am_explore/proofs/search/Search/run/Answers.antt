@@ -15,4 +15,6 @@ returns-then-is_empty-clause-found c = λ start l.
     let none : vec_len next ≡ 0 = grind (arith, nat_tests) in
     let empty : next.items ≡ [] = nil_from_length next.items (omega (arith, next.ok.0)) in
     let goes_on = rw c.in_default.is at c.in_ok-found.ensures.goes_on in
-    none_found scene question start (subst (λ (z : List Node). IsLevel scene question start z) empty (goes_on start (c.loop-found.invariant.same start l)))
+    none_found scene question start
+    (subst (λ (z : List Node). IsLevel scene question start z) empty
+    (goes_on start (c.loop-found.invariant.same start l)))

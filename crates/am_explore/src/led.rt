@@ -117,8 +117,8 @@ fn go_along(
 }
 
 /// Where first choices lead from where a scene stands, which are named by their numbers, from 1, in the lists that
-/// `choices` gives: the order that they are, and where it leads. What has begun stays as it is. Out of memory is the one
-/// error.
+/// `choices` gives: the order that they are, and where it leads. What has begun stays as it is. Out of memory is the
+/// one error.
 pub fn lead(alloc: Global, scene: &Scene, start: &Begun, numbers: &[u32]) -> Result<Led, AllocError>
     ensures { IfOk result (IsLed scene.now (stand_of start.now) numbers.now) }
 {
