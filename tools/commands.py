@@ -168,6 +168,8 @@ NO_COMMAND_LINES = [
     (["server"], near(b"serve")), (["serve", "x"], fed(b"serve", b"session")),
     (["explorer"], near(b"explore")), (["explore", "x"], fed(b"explore", b"scene")), (["explore", "--most", "0"], b""),
     (["explore", "--most", "4294967296"], b""), (["explore", "--most"], b""), (["explore", "--from", "1"], b""),
+    (["explore", "--prefix", "0"], b""), (["explore", "--prefix", "1,"], b""), (["explore", "--prefix"], b""),
+    (["explore", "--prefix", "4294967296"], b""), (["explore", "--prefix", "1", "--prefix", "2"], b""),
     (["judge", "x"], fed(b"judge", b"trace")), (["import", "x"], fed(b"import", b"mountinfo")),
     (["world", "--namespace", "one"], b""), (["world", "--namespace"], b""), (["world", "1"], fed(b"world")),
     (["world", "--namespace", "4294967296"], b""), (["world", "--from", "1"], b""),
@@ -281,7 +283,7 @@ never u waiting
 never t 1 fail *
 """
 WALKED_FIRST, WALKED_LAST = b"walk 1 0 /a 5 room\numount 0 /a\n", b"umount 0 /a\nwalk 1 0 /a 5 room\n"
-BOTH = b"# orders 2 states 5 ends 2\n"
+BOTH = b"# orders 2 states 5 ends 2 worlds 2\n"
 FOUND = (b"# line 9: yes, events 2\n" + WALKED_FIRST + b"# line 10: yes, events 2\n" + WALKED_LAST
          + b"# line 11: yes, events 2\n" + WALKED_FIRST + b"# line 12: no order\n# line 13: no order\n" + BOTH)
 # Texts that are no scenes: the line of the fault, and its word.
@@ -313,8 +315,8 @@ COMMAND_LINES = [
     (["serve"], b"", (0, b"", b"")),
     (["serve"], b"events\nx\n" + SHORT[7:], (0, b".\nfault 2:1 BadEvent expected the word of an event\n.\nmount 2\n.\nerr 5\n.\n", b"")),
     (["explore"], ASKED, (0, FOUND, b"")), (["explore", "--most", "5"], ASKED, (0, FOUND, b"")),
-    (["explore"], b"events\n", (0, b"# orders 1 states 1 ends 1\n", b"")), (["explore"], SCENE, (0, BOTH, b"")),
-    (["explore", "--most", "1"], b"events\n", (0, b"# orders 1 states 1 ends 1\n", b"")),
+    (["explore"], b"events\n", (0, b"# orders 1 states 1 ends 1 worlds 1\n", b"")), (["explore"], SCENE, (0, BOTH, b"")),
+    (["explore", "--most", "1"], b"events\n", (0, b"# orders 1 states 1 ends 1 worlds 1\n", b"")),
     (["explore"], SCENE + b"never t 1 at 2 *\n", (1, b"", fault(9, b"BadAnswer"))),
     (["explore"], SCENE + b"sometimes t waiting\nnever u 1 err *\n",
      (1, b"# line 9: no order\n# line 10: yes, events 2\n" + WALKED_FIRST + BOTH, b"")),
@@ -322,9 +324,19 @@ COMMAND_LINES = [
      (1, b"# line 9: no order\n# line 10: no order\n" + BOTH, b"")),
     (["explore"], SCENE + b"never u 1 err 3\nnever u waiting\n",
      (1, b"# line 9: yes, events 2\n" + WALKED_FIRST + b"# line 10: no order\n" + BOTH, b"")),
-    (["explore", "--most", "4"], ASKED, (3, b"".join(b"# line %d: not all seen\n" % line for line in range(9, 14))
-                                         + b"# not all seen, states 4\n", b"")),
-    (["explore", "--most", "1"], SCENE, (0, b"# not all seen, states 1\n", b"")),
+    (["explore", "--most", "4"], ASKED, (3, b"".join(b"# line %d: not all seen, no order of fewer than 1 events\n" % line for line in range(9, 14))
+                                         + b"# not all seen, states 4 choices 2\n", b"")),
+    (["explore", "--most", "1"], SCENE, (0, b"# not all seen, states 1 choices 2\n", b"")),
+    (["explore", "--prefix", ""], ASKED, (0, FOUND, b"")), (["explore", "--prefix="], ASKED, (0, FOUND, b"")),
+    (["explore", "--prefix", "2"], SCENE + b"sometimes t 1 at 1 /a\nnever u 1 err 3\n",
+     (0, b"# line 9: yes, events 2\n" + WALKED_LAST + b"# line 10: no order\n# orders 1 states 2 ends 1 worlds 1\n", b"")),
+    (["explore", "--prefix", "1,1"], SCENE, (0, b"# orders 1 states 1 ends 1 worlds 1\n", b"")),
+    (["explore", "--most", "1", "--prefix", "1"], SCENE + b"never t waiting\n",
+     (3, b"# line 9: not all seen, no order of fewer than 1 events\n# not all seen, states 1 choices 1\n", b"")),
+    (["explore", "--prefix", "3"], ASKED, (1, b"", b"fault: prefix 1: NoSuchChoice\n")),
+    (["explore", "--prefix", "1,2,1"], ASKED, (1, b"", b"fault: prefix 2: NoSuchChoice\n")),
+    (["explore", "--prefix", "1"], b"events\n", (1, b"", b"fault: prefix 1: NoSuchChoice\n")),
+    (["explore", "--prefix", "1"], b"x\n", (1, b"", fault(1, b"BadSection"))),
     *((["explore"], given, (1, b"", fault(line, word))) for given, line, word in NO_SCENES),
     # What was found is a script behind the events of its scene.
     *((["script"], b"events\nmount 0 /a\n" + order, (0, b"mount 2\n" + wrote, b""))

@@ -14,9 +14,9 @@ import subprocess
 import sys
 
 #: The words with which the lines of a scene begin, behind those of its script.
-WORDS = ("thread", "serve", "sometimes", "never")
-QUESTIONS = ("sometimes", "never")
-FOUND = re.compile(r"# line (\d+): (?:yes, events (\d+)|(no order|not all seen))")
+WORDS = ("thread", "serve", "sometimes", "never", "always")
+QUESTIONS = ("sometimes", "never", "always")
+FOUND = re.compile(r"# line (\d+): (?:yes, events (\d+)|(no order)|(not all seen), no order of fewer than (\d+) events)")
 
 
 def lines_of(text):
@@ -62,7 +62,7 @@ def findings(wrote):
     while lines:
         said = FOUND.fullmatch(lines.pop(0))
         count = int(said[2] or 0)
-        found[int(said[1])] = said[3] or lines[:count]
+        found[int(said[1])] = said[3] or said[4] or lines[:count]
         del lines[:count]
     return found, last
 

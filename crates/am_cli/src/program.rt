@@ -295,14 +295,8 @@ fn explore_orders<R: Read, W: Write, E: Write, P: Watch>(
         (W.contents writer.old) (W.contents writer.new) (E.contents errors.old)
         (E.contents errors.new) result }
 {
-    match explore_scene(
-        alloc,
-        u64::from(most),
-        prefix.as_slice(),
-        reader,
-        writer,
-        watch,
-    ) {
+    let most = u64::from(most);
+    match explore_scene(alloc, most, prefix.as_slice(), reader, writer, watch) {
         Ok(findings) => status_of_findings(findings),
         Err(fault) => {
             tell_explore(errors, fault);

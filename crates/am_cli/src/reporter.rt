@@ -1,5 +1,6 @@
 //! Who tells how far a search is.
 
+ghost use Rattle.std.specs.Prelude.{◌≡◌};
 ghost use Rattle.am_cli.specs.Telling.{Tells, tally_told};
 
 use crate::telling::tell_tally;

@@ -22,8 +22,8 @@ use Rattle.am_findings.specs.Verdicts.{verdict_of, verdict_on}
 abbrev pub start_of : Told → Stand
 start_of told = begun_at told.scene (state_of told.world)
 
--- the orders that begin with the choices of these numbers: where they lead the others begin; none does where one of these
--- is no step
+-- the orders that begin with the choices of these numbers, with where they lead; none does where one of these is no
+-- step
 abbrev pub IsPart : Told → List ℕ → Part → Type 0
 IsPart told prefix (parts.Behind first begun) =
     (answers : List Answer) × AreTaken told.scene (start_of told) prefix first.items answers (stand_of begun)
@@ -102,16 +102,16 @@ pub record IsExplored (told : Told) (prefix : List ℕ) (most : ℕ) (verdict : 
 -- ---- on the way
 
 -- one question is explored, and what was found is added
-pub record IsAnswered (told : Told) (part : Part) (most : ℕ) (asked : Asked) (old new : List ℕ) (verdict : Verdict) : Type
-    0 where
+pub record IsAnswered (told : Told) (part : Part) (most : ℕ) (asked : Asked) (old new : List ℕ) (verdict : Verdict) :
+    Type 0 where
   pub seen : Seen
   pub answers : Answers told part most asked.question seen
   pub verdict_is : verdict ≡ verdict_on asked.claim seen.found
   pub text_is : new ≡ old ++ finding_text (first_of part) asked seen.found
 
 -- so are all of these
-pub record WereAnswered (told : Told) (part : Part) (most : ℕ) (all : List Asked) (old new : List ℕ) (verdict : Verdict) :
-    Type 0 where
+pub record WereAnswered (told : Told) (part : Part) (most : ℕ) (all : List Asked) (old new : List ℕ)
+    (verdict : Verdict) : Type 0 where
   pub seen : List Seen
   pub found : AreFound told part most all seen
   pub verdict_is : verdict ≡ verdict_of all seen
@@ -124,7 +124,8 @@ pub record IsCountAdded (told : Told) (part : Part) (most : ℕ) (old new : List
   pub text_is : new ≡ old ++ count_text (choices_left told part) count
 
 -- what was found is written
-pub record IsWritten (told : Told) (prefix : List ℕ) (most : ℕ) (old new : Option (List ℕ)) (verdict : Verdict) : Type 0 where
+pub record IsWritten (told : Told) (prefix : List ℕ) (most : ℕ) (old new : Option (List ℕ)) (verdict : Verdict) : Type
+    0 where
   pub text : List ℕ
   pub explored : IsExplored told prefix most verdict text
   pub written : Appends old new text

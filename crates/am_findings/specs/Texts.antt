@@ -28,7 +28,8 @@ abbrev pub unseen_text : List Choice → ℕ → List ℕ
 unseen_text first below =
     codes ": not all seen, no order of fewer than " ++ (decimal (length first + below) ++ codes " events\n")
 
--- what was found of a question, where orders begin with these choices: with an order all its events, as lines of a script
+-- what was found of a question, where orders begin with these choices: with an order all its events, as lines of a
+-- script
 abbrev pub finding_text : List Choice → Asked → Found → List ℕ
 finding_text first asked (founds.Order choices answers) = asked_part asked ++ found_order_text (first ++ choices.items)
 finding_text first asked founds.Never = asked_part asked ++ codes ": no order\n"
@@ -36,7 +37,8 @@ finding_text first asked (founds.Cut below) = asked_part asked ++ unseen_text fi
 
 -- what was found of all questions, in their order
 abbrev pub answers_text : List Choice → List Asked → List Seen → List ℕ
-answers_text first (asked ∷ others) (seen ∷ rest) = finding_text first asked seen.found ++ answers_text first others rest
+answers_text first (asked ∷ others) (seen ∷ rest) =
+    finding_text first asked seen.found ++ answers_text first others rest
 answers_text first _ _ = []
 
 -- what a search of all orders has met

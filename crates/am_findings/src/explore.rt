@@ -246,10 +246,10 @@ fn tell<W: Write, P: Watch>(
     Ok(findings.verdict)
 }
 
-/// Reads a scene to its end, explores those of its orders that begin with the choices of these numbers, from 1, for each
-/// of its questions, in their order, over no more than so many states each, and writes what was found: an order as the
-/// lines of its events, the first ones among them. Where the text is no scene, there is no such choice, or memory runs
-/// out, nothing is written, and where the writer fails a beginning. Who watches is told how far each search is.
+/// Reads a scene to its end, explores those of its orders that begin with the choices of these numbers, from 1, for
+/// each of its questions, in their order, over no more than so many states each, and writes what was found: an order as
+/// the lines of its events, the first ones among them. Where the text is no scene, there is no such choice, or memory
+/// runs out, nothing is written, and where the writer fails a beginning. Who watches is told how far each search is.
 pub fn explore_scene<R: Read, W: Write, P: Watch>(
     alloc: Global,
     most: u64,
