@@ -14,7 +14,7 @@ use am_script::{ScriptFault, ScriptFaultKind};
 use std::alloc::{AllocError, Global};
 
 /// How many lines a script has at most of which a fault is explained.
-const MOST_LINES: u64 = 4_611_686_018_427_387_904;
+pub(crate) const MOST_LINES: u64 = 4_611_686_018_427_387_904;
 
 /// What is told below the fault with which a script stops: the line, its column and what was expected
 /// there. Nothing where the fault has no place, where its line isn't recalled any more, and where
@@ -75,7 +75,7 @@ fn put_slip(
     put_note(help, note)
 }
 
-fn first_line(text: &[u8]) -> &[u8]
+pub(crate) fn first_line(text: &[u8]) -> &[u8]
     ensures { result.now ≡ first_line (lines_of text.now) }
 {
     let (line, _below) = cut_at_line_feed(text);

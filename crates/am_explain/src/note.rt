@@ -42,7 +42,7 @@ fn ends_in_return(line: &[u8]) -> bool
     }
 }
 
-fn is_word(word: &[u8], text: &[u8]) -> bool
+pub(crate) fn is_word(word: &[u8], text: &[u8]) -> bool
     ensures { result ≡ bytes_eq word.now text.now }
 {
     word == text

@@ -1,4 +1,5 @@
 pub mod AnswerWords
+pub mod Asking
 pub mod Faults
 pub mod Leading
 pub mod QuestionWords
@@ -11,9 +12,10 @@ pub mod View
 pub mod Way
 -- what contracts cite, passed on from one place
 pub use AnswerWords.{sought_read}
+pub use Asking.{AskedLine, Asks, AsksAnswer, AsksLine, AsksNoLine, AsksWait, asked_line, asks_of}
 pub use Faults.{fault_at, fault_of_script, kind_number, kind_of_script}
 pub use Leading.{IsLed, HadMemory}
-pub use QuestionWords.{question_read}
+pub use QuestionWords.{are_world_words, no_line_read, question_read}
 pub use Reading.{IsScene, NoRoom, NoScene, so_far_of}
 pub use SceneLines.{after_line, scene_from}
 pub use SceneText.{scene_of}

@@ -1,6 +1,6 @@
 -- What comes of the reading of a scene: own choice (docs/FORMATS.md, "Scenes").
 use Rattle.std.specs.Prelude.{◌≡◌, ◌⊎◌, ◌≤◌, ◌<◌, ℕ, ◌+◌, false, List, length, Option, None, Some, Result, Ok, Err}
-use Rattle.std.specs.Prelude.{option_copied}
+use Rattle.std.specs.Prelude.{map, option_copied}
 use Rattle.am_machine.specs.{Answer, Event, Setup, Step, initial_state_of}
 use Rattle.am_machine.specs.State.{State}
 use Rattle.am_state.specs.{Obs}
@@ -13,6 +13,7 @@ use Rattle.am_scenes.specs.declared.fault.SceneFaultKind.{SceneFaultKind}
 use Rattle.am_scenes.specs.declared.fault.SceneFaultKind.TheVariants.{NoMemory}
 use Rattle.am_scenes.specs.declared.told.Told.{Told}
 use Rattle.am_scenes.specs.declared.way.Arrival.{Arrival}
+use Rattle.am_scenes.specs.Asking.{asked_line}
 use Rattle.am_scenes.specs.Faults.{kind_of_script}
 use Rattle.am_scenes.specs.Leading.{IsLed}
 use Rattle.am_scenes.specs.SceneLines.{scene_from}
@@ -30,7 +31,7 @@ so_far_of told = record {
   threads = told.scene.threads.items;
   within = None;
   service = results_in told.scene.daemon;
-  asked = told.asked.items;
+  asked = map asked_line told.asked.items;
 }
 
 -- the text says this scene, and its events lead from the script's initial world to this world

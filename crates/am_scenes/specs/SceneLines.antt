@@ -10,14 +10,14 @@ use Rattle.am_script.specs.declared.fault.ScriptFaultKind.TheVariants.{LongLine}
 use Rattle.am_script.specs.Lines.{is_long, are_skipped}
 use Rattle.am_script.specs.Events.{event_read}
 use Rattle.am_script.specs.Sections.{are_only}
-use Rattle.am_explore.specs.{Question}
 use Rattle.am_scenes.specs.declared.asked.Claim.{Claim}
 use Rattle.am_scenes.specs.declared.asked.Claim.TheVariants as claims
 use Rattle.am_scenes.specs.declared.fault.SceneFault.{SceneFault}
 use Rattle.am_scenes.specs.declared.fault.SceneFaultKind.{SceneFaultKind}
 use Rattle.am_scenes.specs.declared.fault.SceneFaultKind.TheVariants as kinds
+use Rattle.am_scenes.specs.Asking.{Asks}
 use Rattle.am_scenes.specs.Faults.{fault_at, kind_of_script}
-use Rattle.am_scenes.specs.QuestionWords.{question_read, thread_named}
+use Rattle.am_scenes.specs.QuestionWords.{no_line_read, question_read, thread_named}
 use Rattle.am_scenes.specs.ServiceWords.{service_read}
 use Rattle.am_scenes.specs.SoFar.{SceneSoFar, Unended}
 
@@ -63,15 +63,19 @@ served said words =
     if is_some said.service then Err kinds.ServiceTwice else with_service said (service_read words)
 
 -- one question more, if it is read
-abbrev pub with_question : SceneSoFar → ℕ → Claim → Result Question SceneFaultKind → Result SceneSoFar SceneFaultKind
-with_question said number claim (Ok question) =
-    Ok (record said { asked = said.asked ++ record { line = number; claim = claim; question = question } ∷ [] })
+abbrev pub with_question : SceneSoFar → ℕ → Claim → Result Asks SceneFaultKind → Result SceneSoFar SceneFaultKind
+with_question said number claim (Ok asks) =
+    Ok (record said { asked = said.asked ++ record { line = number; claim = claim; asks = asks } ∷ [] })
 with_question said number claim (Err kind) = Err kind
 
--- behind a question
+-- behind `sometimes` or `never`
 abbrev pub question_asked : SceneSoFar → ℕ → Claim → List (List ℕ) → Result SceneSoFar SceneFaultKind
 question_asked said number claim words =
     with_question said number claim (question_read said.names said.threads words)
+
+-- behind `always`: never does an order end without such a line
+abbrev pub always_asked : SceneSoFar → ℕ → List (List ℕ) → Result SceneSoFar SceneFaultKind
+always_asked said number words = with_question said number claims.Never (no_line_read words)
 
 -- behind `thread` or `serve`, which stand above all questions
 abbrev pub if_early : SceneSoFar → Result SceneSoFar SceneFaultKind → Result SceneSoFar SceneFaultKind
@@ -84,6 +88,7 @@ by_word said number word words =
     else if bytes_eq word (codes "serve") then if_early said (served said words)
     else if bytes_eq word (codes "sometimes") then question_asked said number claims.Sometimes words
     else if bytes_eq word (codes "never") then question_asked said number claims.Never words
+    else if bytes_eq word (codes "always") then always_asked said number words
     else Err kinds.BadLine
 
 -- behind a line outside of threads

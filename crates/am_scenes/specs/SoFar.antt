@@ -2,7 +2,7 @@
 use Rattle.std.specs.Prelude.{ℕ, List, [], Option, None}
 use Rattle.am_names.specs.declared.fail_no.FailNo.{FailNo}
 use Rattle.am_machine.specs.{Event}
-use Rattle.am_scenes.specs.declared.asked.Asked.{Asked}
+use Rattle.am_scenes.specs.Asking.{AskedLine}
 
 -- a thread that has no `end` yet: the number of its first line, and its events so far
 pub record Unended : Type 0 where
@@ -19,7 +19,7 @@ pub record SceneSoFar : Type 0 where
   pub within : Option Unended
   -- how the acts of a daemon that serves may come out
   pub service : Option (List (Option FailNo))
-  pub asked : List Asked
+  pub asked : List AskedLine
 
 -- nothing is said yet
 abbrev pub nothing_said : SceneSoFar

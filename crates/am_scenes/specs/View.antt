@@ -1,9 +1,10 @@
 -- What the fields of a scene that is being read stand for.
-use Rattle.std.specs.Prelude.{List, Option, None, Some, Vec}
+use Rattle.std.specs.Prelude.{List, map, Option, None, Some, Vec}
 use Rattle.std.specs.Option.{option_map}
 use Rattle.am_names.specs.declared.fail_no.FailNo.{FailNo}
 use Rattle.am_explore.specs.declared.scene.Service.{Service}
 use Rattle.am_scenes.specs.declared.gathered.Gathered.TheInside.{Inside}
+use Rattle.am_scenes.specs.Asking.{asked_line}
 use Rattle.am_scenes.specs.SoFar.{SceneSoFar}
 
 -- how the acts of a daemon may come out, if it serves
@@ -17,7 +18,7 @@ view_of g = record {
   threads = g.threads.items;
   within = g.within;
   service = results_in g.service;
-  asked = g.asked.items;
+  asked = map asked_line g.asked.items;
 }
 
 -- the items of a list, if there is one

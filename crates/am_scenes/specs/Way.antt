@@ -20,7 +20,7 @@ pub record Way : Type 0 where
 abbrev pub is_scene_word : List ℕ → Bool
 is_scene_word word =
     bytes_eq word (codes "thread") || bytes_eq word (codes "serve")
-    || bytes_eq word (codes "sometimes") || bytes_eq word (codes "never")
+    || bytes_eq word (codes "sometimes") || bytes_eq word (codes "never") || bytes_eq word (codes "always")
 
 -- these are the words of such a line
 abbrev pub are_scene_words : List (List ℕ) → Bool

@@ -7,7 +7,8 @@ use am_explore::Question;
 pub enum Claim {
     /// `sometimes`: that there is an order whose end meets the question.
     Sometimes,
-    /// `never`: that there is none.
+    /// `never`: that there is none. `always` is this too, of the question that asks for the opposite: that never does an
+    /// order end without such a line.
     Never,
 }
 

@@ -11,11 +11,11 @@ ghost use Rattle.am_scenes.specs.declared.fault.SceneFaultKind.TheVariants.{NoMe
 use crate::asked::{Asked, Claim};
 use crate::fault::{SceneFault, SceneFaultKind, fault_at, kind_of_script};
 use crate::line::{is_long, is_only, is_skipped, is_word, only_word, split_line};
-use crate::question_words::{read_question, thread_named};
+use crate::question_words::{read_no_line, read_question, thread_named};
 use crate::service_words::read_service;
 use crate::thread_name::ThreadName;
 use crate::told::Told;
-use am_explore::{Scene, Service, Thread};
+use am_explore::{Question, Scene, Service, Thread};
 use am_lines::next_word;
 use am_machine::Event;
 use am_script::ScriptFaultKind;
@@ -64,8 +64,9 @@ impl Model for Gathered {
 
 impl Gathered {
     ghost use Rattle.am_scenes.specs.Reading.{Stops, StopsIn, so_far_of};
-    ghost use Rattle.am_scenes.specs.SceneLines.{after_line, by_word, event_behind, has_asked, if_early, in_thread, outside, question_asked, scene_ends, scene_from, served, thread_begun, thread_ended};
+    ghost use Rattle.am_scenes.specs.SceneLines.{after_line, always_asked, by_word, event_behind, has_asked, if_early, in_thread, outside, question_asked, scene_ends, scene_from, served, thread_begun, thread_ended, with_question};
     ghost use Rattle.am_scenes.specs.SoFar.{nothing_said};
+    ghost use Rattle.am_scenes.specs.Asking.{asks_of};
 
     /// Nothing is said yet.
     pub fn new(alloc: Global) -> Gathered
@@ -268,6 +269,7 @@ impl Gathered {
             _ if is_word(word, b"serve") => self.take_service(alloc, words),
             _ if is_word(word, b"sometimes") => self.ask(alloc, number, Claim::Sometimes, words),
             _ if is_word(word, b"never") => self.ask(alloc, number, Claim::Never, words),
+            _ if is_word(word, b"always") => self.ask_always(alloc, number, words),
             _ => Err(SceneFaultKind::BadLine),
         }
     }
@@ -344,6 +346,30 @@ impl Gathered {
         let names = self.names.as_slice();
         let threads = self.threads.as_slice();
         let question = read_question(alloc, names, threads, words)?;
+        self.push_question(number, claim, question)
+    }
+
+    /// Takes the words behind `always`: never does an order end without such a line.
+    fn ask_always(&mut self, alloc: Global, number: u64, words: &[u8]) -> Result<(), SceneFaultKind>
+        ensures ok { OnOk result (always_asked self.old number (words_of words.now)
+            ≡ Ok self.new) }
+        ensures err { IfErr result (Stops (always_asked self.old number (words_of words.now))) }
+    {
+        let question = read_no_line(alloc, words)?;
+        self.push_question(number, Claim::Never, question)
+    }
+
+    /// One question more.
+    fn push_question(
+        &mut self,
+        number: u64,
+        claim: Claim,
+        question: Question,
+    ) -> Result<(), SceneFaultKind>
+        ensures ok { OnOk result (with_question self.old number claim (Ok (asks_of question))
+            ≡ Ok self.new) }
+        ensures err { IfErr result (λ kind. kind ≡ NoMemory) }
+    {
         self.asked.push(Asked {
             line: number,
             claim,

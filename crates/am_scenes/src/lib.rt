@@ -16,5 +16,6 @@ mod way;
 
 pub use asked::{Asked, Claim};
 pub use fault::{SceneFault, SceneFaultKind};
+pub use service_words::read_failure;
 pub use thread_name::ThreadName;
 pub use told::{Told, read_scene};

@@ -2,16 +2,17 @@
 
 ghost use Rattle.std.specs.Prelude.{◌≡◌, Ok, IfOk, IfErr};
 ghost use Rattle.am_lines.specs.{words_of};
-ghost use Rattle.am_scenes.specs.QuestionWords.{asked_of, event_count, event_index, event_numbered, question_read, thread_named};
+ghost use Rattle.am_scenes.specs.Asking.{asks_of};
+ghost use Rattle.am_scenes.specs.QuestionWords.{are_world_words, asked_of, begins_with_digit, event_count, event_index, event_numbered, line_read, no_line_read, question_read, thread_named};
 ghost use Rattle.am_scenes.specs.Reading.{Stops};
 
 use crate::answer_words::read_sought;
 use crate::fault::SceneFaultKind;
-use crate::line::is_only;
+use crate::line::{is_only, is_word};
 use crate::number::read_u64;
 use crate::thread_name::ThreadName;
 use am_explore::{Question, Thread};
-use am_lines::next_word;
+use am_lines::{begins_with, next_word};
 use std::alloc::Global;
 
 /// The index of the thread of this name.
@@ -59,7 +60,7 @@ fn read_asked(
     words: &[u8],
 ) -> Result<Question, SceneFaultKind>
     ensures ok { IfOk result (λ question. asked_of thread count (words_of words.now)
-        ≡ Ok question) }
+        ≡ Ok (asks_of question)) }
     ensures err { IfErr result (Stops (asked_of thread count (words_of words.now))) }
 {
     let Some((word, behind)) = next_word(words) else {
@@ -81,7 +82,55 @@ fn read_asked(
     }
 }
 
-/// What is asked, of one of these threads.
+fn begins_with_digit(word: &[u8]) -> bool
+    ensures { result ≡ begins_with_digit word.now }
+{
+    match word {
+        [first, ..] => *first >= b'0' && *first <= b'9',
+        [] => false,
+    }
+}
+
+/// Whether the words are such as a line of a world's text has, of which `*` is any.
+fn are_world_words(words: &[u8]) -> bool
+    ensures { result ≡ are_world_words (words_of words.now) }
+{
+    match next_word(words) {
+        None => false,
+        Some((word, _)) => {
+            begins_with_digit(word) || begins_with(word, b'#') || is_word(word, b"*")
+        }
+    }
+}
+
+/// Whether the world's text has a line of these words.
+fn read_line(alloc: Global, words: &[u8]) -> Result<Question, SceneFaultKind>
+    ensures ok { IfOk result (λ question. line_read (words_of words.now) ≡ Ok (asks_of question)) }
+    ensures err { IfErr result (Stops (line_read (words_of words.now))) }
+{
+    if !are_world_words(words) {
+        return Err(SceneFaultKind::NoSuchThread);
+    }
+    Ok(Question::Shows {
+        line: Vec::from_slice(alloc, words)?,
+    })
+}
+
+/// Whether it has none, as `always` asks.
+pub(crate) fn read_no_line(alloc: Global, words: &[u8]) -> Result<Question, SceneFaultKind>
+    ensures ok { IfOk result (λ question. no_line_read (words_of words.now)
+        ≡ Ok (asks_of question)) }
+    ensures err { IfErr result (Stops (no_line_read (words_of words.now))) }
+{
+    if !are_world_words(words) {
+        return Err(SceneFaultKind::BadQuestion);
+    }
+    Ok(Question::Lacks {
+        line: Vec::from_slice(alloc, words)?,
+    })
+}
+
+/// What is asked, of one of these threads or of the world's text.
 pub(crate) fn read_question(
     alloc: Global,
     names: &[ThreadName],
@@ -89,15 +138,15 @@ pub(crate) fn read_question(
     words: &[u8],
 ) -> Result<Question, SceneFaultKind>
     ensures ok { IfOk result (λ question. question_read names.now threads.now (words_of words.now)
-        ≡ Ok question) }
+        ≡ Ok (asks_of question)) }
     ensures err { IfErr result (Stops (question_read names.now threads.now
         (words_of words.now))) }
 {
-    let Some((name, words)) = next_word(words) else {
+    let Some((word, behind)) = next_word(words) else {
         return Err(SceneFaultKind::BadQuestion);
     };
-    let Some(thread) = thread_named(names, name) else {
-        return Err(SceneFaultKind::NoSuchThread);
-    };
-    read_asked(alloc, thread, event_count(threads, thread), words)
+    match thread_named(names, word) {
+        Some(thread) => read_asked(alloc, thread, event_count(threads, thread), behind),
+        None => read_line(alloc, words),
+    }
 }

@@ -2,6 +2,7 @@
 
 ghost use Rattle.std.specs.Prelude.{◌≡◌, option_map, IfOk};
 ghost use Rattle.am_lines.specs.{words_of};
+ghost use Rattle.am_script.specs.EventWords.{failure_read};
 ghost use Rattle.am_scenes.specs.ServiceWords.{fail_read, failures_read, results_of, service_read};
 ghost use Rattle.am_scenes.specs.View.{items_in, results_in};
 
@@ -12,6 +13,13 @@ use am_lines::next_word;
 use am_names::FailNo;
 use std::alloc::{AllocError, Global};
 
+/// The failure of this number, from 1 to 9, as a scene writes it.
+pub fn read_failure(digits: &[u8]) -> Option<FailNo>
+    ensures { result ≡ failure_read digits.now }
+{
+    FailNo::read(read_u8(digits)?).ok()
+}
+
 /// The failure of `fail N`.
 fn read_fail(word: &[u8], digits: &[u8]) -> Option<FailNo>
     ensures { result ≡ fail_read word.now digits.now }
@@ -19,7 +27,7 @@ fn read_fail(word: &[u8], digits: &[u8]) -> Option<FailNo>
     if !is_word(word, b"fail") {
         return None;
     }
-    FailNo::read(read_u8(digits)?).ok()
+    read_failure(digits)
 }
 
 /// How acts come out: without a failure, or with one of these, each `fail N`.

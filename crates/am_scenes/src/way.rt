@@ -36,6 +36,7 @@ fn is_scene_word(word: &[u8]) -> bool
         || is_word(word, b"serve")
         || is_word(word, b"sometimes")
         || is_word(word, b"never")
+        || is_word(word, b"always")
 }
 
 /// Whether the scene begins with this line.

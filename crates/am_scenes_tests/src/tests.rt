@@ -2,5 +2,6 @@
 
 mod faults;
 mod orders;
+mod places;
 mod scenes;
 mod table;

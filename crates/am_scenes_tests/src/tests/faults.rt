@@ -1,6 +1,6 @@
 //! The first fault of a text, and its line.
 
-use crate::tests::table::{HEAD, Row, fault_without_memory, hold, read};
+use crate::tests::table::{HEAD, Row, fault_of, fault_without_memory, hold};
 use am_names::Errno;
 use am_scenes::{SceneFault, SceneFaultKind};
 use am_script::ScriptFaultKind;
@@ -20,18 +20,6 @@ enum Text {
     Long(&'static [u8], usize, Option<u64>),
     /// The number of a fault, and its words at a line.
     Number(SceneFaultKind, u8, u64, &'static str),
-}
-
-fn fault_of(
-    alloc: Global,
-    head: &[u8],
-    text: &[u8],
-    broke: Option<ScriptFaultKind>,
-) -> Result<Option<SceneFault>, Errno> {
-    match read(alloc, head, text, broke)? {
-        Ok(_) => Ok(None),
-        Err(fault) => Ok(Some(fault)),
-    }
 }
 
 /// Whether this fault was found.
@@ -208,7 +196,7 @@ fn services_rows() -> &'static [Text] {
     &SERVICES
 }
 
-static QUESTIONS: [Text; 9] = [
+static QUESTIONS: [Text; 17] = [
     Text::Bad(b"sometimes\n", 9, SceneFaultKind::BadQuestion),
     Text::Bad(b"never a\n", 9, SceneFaultKind::NoSuchThread),
     Text::Bad(
@@ -245,6 +233,27 @@ static QUESTIONS: [Text; 9] = [
         b"thread a\nleave 1\nend\nnever a waiting\nnever a 01 *\n",
         13,
         SceneFaultKind::NoSuchEvent,
+    ),
+    // A thread's name is no line's first word.
+    Text::Bad(
+        b"thread 1\nleave 1\nend\nnever 1 0:1\n",
+        12,
+        SceneFaultKind::NoSuchEvent,
+    ),
+    Text::Bad(b"sometimes *x 1\n", 9, SceneFaultKind::NoSuchThread),
+    Text::Bad(b"never -1\n", 9, SceneFaultKind::NoSuchThread),
+    Text::Bad(b"always\n", 9, SceneFaultKind::BadQuestion),
+    Text::Bad(b"always x 1\n", 9, SceneFaultKind::BadQuestion),
+    Text::Bad(
+        b"thread a\nend\nalways a waiting\n",
+        11,
+        SceneFaultKind::BadQuestion,
+    ),
+    Text::Bad(b"always 1\nthread a\nend\n", 10, SceneFaultKind::LateLine),
+    Text::Bad(
+        b"thread a\nalways 1\nend\n",
+        10,
+        SceneFaultKind::BadThreadEvent,
     ),
 ];
 

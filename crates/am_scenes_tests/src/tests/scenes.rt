@@ -2,6 +2,7 @@
 
 use crate::tests::table::{Row, good, hold};
 use am_explore::{Question, Scene, Service, Sought};
+use am_lines::next_word;
 use am_machine::Answer;
 use am_names::{Errno, FailNo};
 use am_scenes::{Asked, Claim, ThreadName, Told};
@@ -11,13 +12,17 @@ use std::alloc::Global;
 /// A thread: its name, and how many events it has.
 type Named = (&'static [u8], usize);
 
-/// What a question asks of the thread at an index.
+/// What a question asks, of the thread at an index or of the world's text.
 enum Wanted {
     Waiting(usize),
     /// Of its event at this index, any of these answers, by the word with which they begin.
     Any(usize, usize, &'static [u8]),
     /// Exactly the answer that is written as this line.
     Exactly(usize, usize, &'static [u8]),
+    /// That there is a line of these words.
+    Shown(&'static [u8]),
+    /// That there is none.
+    Lacking(&'static [u8]),
 }
 
 /// A question: its line, and what it asks.
@@ -80,6 +85,20 @@ fn is_exactly(alloc: Global, sought: &Sought, wanted: &[u8]) -> Result<bool, Err
     }
 }
 
+/// Whether two lines have the same words.
+fn are_same_words(line: &[u8], other: &[u8]) -> bool {
+    let mut line = line;
+    let mut other = other;
+    while let Some((word, behind)) = next_word(line) {
+        match next_word(other) {
+            Some((same, rest)) if word == same => other = rest,
+            _ => return false,
+        }
+        line = behind;
+    }
+    next_word(other).is_none()
+}
+
 fn asks(alloc: Global, question: &Question, wanted: &Wanted) -> Result<bool, Errno> {
     match (question, wanted) {
         (Question::Waiting { thread }, Wanted::Waiting(index)) => Ok(thread == index),
@@ -99,6 +118,8 @@ fn asks(alloc: Global, question: &Question, wanted: &Wanted) -> Result<bool, Err
             },
             Wanted::Exactly(index, of, line),
         ) => Ok(thread == index && event == of && is_exactly(alloc, sought, line)?),
+        (Question::Shows { line }, Wanted::Shown(words)) => Ok(are_same_words(line, words)),
+        (Question::Lacks { line }, Wanted::Lacking(words)) => Ok(are_same_words(line, words)),
         _ => Ok(false),
     }
 }
@@ -134,7 +155,7 @@ impl Row for Text {
     }
 }
 
-static SCENES: [Text; 6] = [
+static SCENES: [Text; 8] = [
     Text {
         text: b"",
         threads: &[],
@@ -187,6 +208,28 @@ static SCENES: [Text; 6] = [
                 Claim::Never,
                 Wanted::Exactly(1, 1, b"at 4294967296 /a/b\n"),
             ),
+        ],
+    },
+    Text {
+        text: b"leave 1\nalways 1 1 0:1 / / rw\n",
+        threads: &[],
+        results: None,
+        asked: &[(10, Claim::Never, Wanted::Lacking(b"1 1 0:1 / / rw"))],
+    },
+    // A word is a thread's name before it is a line's first.
+    Text {
+        text: b"thread a\nleave 1\nend\nthread 7\nend\nsometimes 1 1 0:1 / / rw\nnever  *\t9 \nalways # namespace 0\nalways * x\nnever 7 waiting\nalways 7 waiting\nsometimes 12a\nnever #\n",
+        threads: &[(b"a", 1), (b"7", 0)],
+        results: None,
+        asked: &[
+            (14, Claim::Sometimes, Wanted::Shown(b"1 1 0:1 / / rw")),
+            (15, Claim::Never, Wanted::Shown(b"* 9")),
+            (16, Claim::Never, Wanted::Lacking(b"# namespace 0")),
+            (17, Claim::Never, Wanted::Lacking(b"* x")),
+            (18, Claim::Never, Wanted::Waiting(1)),
+            (19, Claim::Never, Wanted::Lacking(b"7 waiting")),
+            (20, Claim::Sometimes, Wanted::Shown(b"12a")),
+            (21, Claim::Never, Wanted::Shown(b"#")),
         ],
     },
 ];

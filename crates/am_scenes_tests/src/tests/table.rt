@@ -96,6 +96,19 @@ pub fn fault_without_memory(alloc: Global, text: &[u8]) -> Result<Option<SceneFa
     Ok(fault)
 }
 
+/// The fault of a text behind this head, if it has one.
+pub fn fault_of(
+    alloc: Global,
+    head: &[u8],
+    text: &[u8],
+    broke: Option<ScriptFaultKind>,
+) -> Result<Option<SceneFault>, Errno> {
+    match read(alloc, head, text, broke)? {
+        Ok(_) => Ok(None),
+        Err(fault) => Ok(Some(fault)),
+    }
+}
+
 /// The scene that a good text behind `HEAD` is read as.
 pub fn good(alloc: Global, text: &[u8]) -> Result<Told, Errno> {
     match read(alloc, HEAD, text, None)? {
