@@ -24,7 +24,7 @@ use Rattle.am_cli.specs.Args.{fault_number}
 use Rattle.am_cli.specs.CommandLine.{IsAsked, IsRefused}
 use Rattle.am_cli.specs.Help.{help_text, version_line}
 use Rattle.am_cli.specs.Hints.{IsHint, usage_told}
-use Rattle.am_cli.specs.Telling.{explore_told, import_told, IsCut, judge_told, script_told, Tells, TellsFault}
+use Rattle.am_cli.specs.Telling.{import_told, IsCut, judge_told, script_told, Tells, TellsExplore, TellsFault}
 use Rattle.am_cli.specs.Telling.{word_told}
 use Rattle.am_cli.specs.declared.hints.Hint.{Hint}
 use Rattle.am_cli.specs.declared.topics.Topic.{Topic}
@@ -159,7 +159,7 @@ asked_of NotVersioned = Version
 -- What is read and written, and what is told of it: nothing is told of a script that is played,
 -- traced or drawn to its end, or whose world is printed, nor of a session that is served, a scene that is explored,
 -- a trace that is judged, a mountinfo that is imported, threads whose rounds stand written, or help and a version that
--- do. Else the fault is told; that of a script with what the reader recalls of it.
+-- do. Else the fault is told; that of a script or a scene with what the reader recalls of it.
 -- Threads, help and the version read nothing. Nothing is written where threads don't run.
 abbrev pub Leaves : End → Recalled → Option (List ℕ) → Option (List ℕ) → Option (List ℕ) → Option (List ℕ) → Option (List ℕ) → Option (List ℕ) → Type 0
 Leaves (Played summary) recalled input rest old new quiet told =
@@ -183,7 +183,7 @@ Leaves (ServeStopped fault) recalled input rest old new quiet told =
 Leaves (Explored most prefix findings) recalled input rest old new quiet told =
     ExploresInput most prefix.items input rest old new findings × (told ≡ quiet)
 Leaves (ExploreStopped most prefix fault) recalled input rest old new quiet told =
-    StopsExploring most prefix.items input rest old new fault × Tells quiet told (explore_told fault)
+    StopsExploring most prefix.items input rest old new fault × TellsExplore recalled fault quiet told
 Leaves (Judged verdict) recalled input rest old new quiet told = JudgesInput input rest old new verdict × (told ≡ quiet)
 Leaves (JudgeStopped fault) recalled input rest old new quiet told =
     StopsJudging input rest old new fault × Tells quiet told (judge_told fault)
