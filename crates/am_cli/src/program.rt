@@ -38,8 +38,8 @@ use std::thread::Threads;
 
 /// Runs the program and answers its exit status: 0 done, 1 a fault, a trace that breaks a law, or a question that comes
 /// out otherwise than asked, 2 a bad command line, 3 where none does, and a search was cut. A fault is told on the last
-/// stream, as far as that takes it; the status tells it too. Below the fault of a script stands what the reader recalls
-/// of it. Who watches is told how far a search of `explore` is.
+/// stream, as far as that takes it; the status tells it too. Below the fault of a script or a scene stands what the
+/// reader recalls of it. Who watches is told how far a search of `explore` is.
 pub fn run_program<T: Threads + Wait + Sync, R: Read, W: Write, E: Write, P: Watch>(
     rt: &T,
     alloc: Global,
@@ -81,15 +81,7 @@ fn run_asked<T: Threads + Wait + Sync, R: Read, W: Write, E: Write, P: Watch>(
         Args::Draw { first, last } => draw(alloc, first, last, reader, writer, errors),
         Args::Serve => serve_lines(alloc, &mut reader.reader, writer, errors),
         Args::Explore { most, prefix } => {
-            explore_orders(
-                alloc,
-                most,
-                &prefix,
-                &mut reader.reader,
-                writer,
-                errors,
-                watch,
-            )
+            explore_orders(alloc, most, &prefix, reader, writer, errors, watch)
         }
         Args::Judge => judge(alloc, &mut reader.reader, writer, errors),
         Args::Import => import_mounts(alloc, &mut reader.reader, writer, errors),
@@ -285,13 +277,13 @@ fn explore_orders<R: Read, W: Write, E: Write, P: Watch>(
     alloc: Global,
     most: u32,
     prefix: &Vec<u32>,
-    reader: &mut R,
+    reader: &mut Recalling<R>,
     writer: &mut W,
     errors: &mut E,
     watch: &mut P,
 ) -> u8
-    ensures { (recalled : Recalled) → Exits (asks.Explore most prefix.now) recalled (R.remaining reader.old)
-        (R.remaining reader.new)
+    ensures { Exits (asks.Explore most prefix.now) reader.new.recalled
+        (R.remaining reader.old.reader) (R.remaining reader.new.reader)
         (W.contents writer.old) (W.contents writer.new) (E.contents errors.old)
         (E.contents errors.new) result }
 {
@@ -299,7 +291,7 @@ fn explore_orders<R: Read, W: Write, E: Write, P: Watch>(
     match explore_scene(alloc, most, prefix.as_slice(), reader, writer, watch) {
         Ok(findings) => status_of_findings(findings),
         Err(fault) => {
-            tell_explore(errors, fault);
+            tell_explore(alloc, &reader.recalled, fault, errors);
             1
         }
     }
