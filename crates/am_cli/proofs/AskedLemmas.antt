@@ -28,6 +28,10 @@ pub refused_for : {T : Type 0} (why : Type 0) (r : Result T ArgsFault) → IfErr
 refused_for why (Ok value) p = tt
 refused_for why (Err fault) p = refused_so why fault p
 
+pub in_any_fault : {T : Type 0} (why : Type 0) (r : Result T ArgsFault) → why → IfErr r (RefusedFor why)
+in_any_fault why (Ok value) p = tt
+in_any_fault why (Err fault) p = refused_so why fault p
+
 -- what is refused for one reason is for another one that follows
 pub refused_then : {why other : Type 0} (fault : ArgsFault) → (why → other) → RefusedFor why fault → RefusedFor other fault
 refused_then NoMemory follows p = tt
