@@ -13,7 +13,7 @@ usage: tools/explores.py
   is what the whole comes to; of a number that no choice has its place is told, and a choice that is no step begins no
   order;
 - on a terminal a search tells each second how far it is, and nowhere else;
-- each fault of a scene is told with its line, and nothing is written; so are a reader that fails or ends within a line,
+- each fault of a scene is told with its line and its place, and nothing is written; so are a reader that fails or ends within a line,
   and a writer that takes nothing; other words are no command line.
 
 The last line counts the checks.
@@ -31,6 +31,7 @@ import time
 
 sys.dont_write_bytecode = True
 import order  # noqa: E402
+import places  # noqa: E402
 
 FOLDER = "examples/explore"
 #: The scene that docs/FORMATS.md shows, one with few states, and one of which an order isn't as asked.
@@ -400,6 +401,14 @@ def fault(line, word):
     return 1, "", f"fault: line {line}: {word}\n"
 
 
+def is_told(program, given, line, word):
+    """Whether this fault is told with its place, if it has one, and nothing is written."""
+    status, wrote, said = program.run(["explore"], given)
+    if (status, wrote) != (1, "") or not said.startswith(fault(line, word)[2]):
+        return False
+    return places.problem(given.encode(), said.encode()) or True
+
+
 def is_read_failed(program):
     """A folder can't be read."""
     with subprocess.Popen([program.path, "explore"], stdin=os.open(FOLDER, os.O_RDONLY), stdout=subprocess.PIPE,
@@ -467,13 +476,11 @@ def checks(program):
     yield "what a terminal is told", lambda: is_told_each_second(program)
     yield "what isn't as asked goes before what wasn't all seen", lambda: is_refuted_and_cut(program)
     for word, line, text in FAULTS:
-        yield f"{word}: {text[-40:]!r}", lambda word=word, line=line, text=text: program.run(
-            ["explore"], text) == fault(line, word)
+        yield f"{word}: {text[-40:]!r}", lambda word=word, line=line, text=text: is_told(program, text, line, word)
     yield f"each fault of {FORMATS} is tried", are_all_tried
     end = scene.index("resume 2")
-    yield "a reader that ends within a thread", lambda: program.run(["explore"], scene[:end]) == fault(13, "NoEnd")
-    yield "a reader that ends within a line", lambda: program.run(
-        ["explore"], scene[:end + 8]) == fault(15, "BadThreadEvent")
+    yield "a reader that ends within a thread", lambda: is_told(program, scene[:end], 13, "NoEnd")
+    yield "a reader that ends within a line", lambda: is_told(program, scene[:end + 8], 15, "BadThreadEvent")
     yield "a reader that fails", lambda: is_read_failed(program)
     yield "a writer that takes nothing", lambda: is_write_failed(program, small)
     for words in REFUSED:

@@ -6,10 +6,10 @@ use Rattle.am_findings.proofs.FindLemmas.{AreLeft, all_left, none_left, one_more
 use Rattle.am_findings.proofs.explore.answer_all.Goals as goal
 
 pub loop-asked-init : goal.loop-asked-init
-loop-asked-init c = all_left c.args.told.now c.args.part.now c.args.most c.args.questions.now c.args.text.now.items
+loop-asked-init g c = all_left c.args.told.now c.args.part.now c.args.most c.args.questions.now c.args.text.now.items
 
 pub loop-asked-preserved : goal.loop-asked-preserved
-loop-asked-preserved c =
+loop-asked-preserved g c =
     let told = c.args.told.now in
     let part = c.args.part.now in
     let most = c.args.most in
@@ -25,7 +25,7 @@ loop-asked-preserved c =
     c.in_ok-one.one here c.loop-asked.invariant c.in_ok-one.ensures)
 
 pub returns : goal.returns
-returns c =
+returns g c =
     let all = c.args.questions.now in
     let i = c.loop-asked.asked-index in
     none_left c.args.told.now c.args.part.now c.args.most (drop i all) all c.args.text.now.items c.loop-asked.text.items
