@@ -13,8 +13,8 @@ usage: tools/explores.py
   is what the whole comes to; of a number that no choice has its place is told, and a choice that is no step begins no
   order;
 - on a terminal a search tells each second how far it is, and nowhere else;
-- each fault of a scene is told with its line and its place, and nothing is written; so are a reader that fails or ends within a line,
-  and a writer that takes nothing; other words are no command line.
+- each fault of a scene is told with its line and its place, and nothing is written; so are a reader that fails or ends
+  within a line, and a writer that takes nothing; other words are no command line.
 
 The last line counts the checks.
 """

@@ -16,7 +16,7 @@ import sys
 #: The words with which the lines of a scene begin, behind those of its script.
 WORDS = ("thread", "serve", "sometimes", "never", "always")
 QUESTIONS = ("sometimes", "never", "always")
-FOUND = re.compile(r"# line (\d+): (?:yes, events (\d+)|(no order)|(not all seen), no order of fewer than (\d+) events)")
+FOUND = re.compile(r"# line (\d+): (?:yes, events (\d+)|(no order)|(not all seen), no order of fewer than \d+ events)")
 
 
 def lines_of(text):

@@ -1,4 +1,5 @@
-"""What the program tells below the fault of a script or a scene, looked at by itself (docs/FORMATS.md, "Below a fault")."""
+"""What the program tells below the fault of a script or a scene, looked at by itself (docs/FORMATS.md, "Below a
+fault")."""
 
 import functools
 import re
