@@ -12,7 +12,7 @@ _automount_cli() {
             trace) words="--plain" ;;
             draw) words="--from --to" ;;
             world) words="--namespace" ;;
-            explore) words="--most" ;;
+            explore) words="--most --prefix" ;;
             threads) words="--walkers --workers --rounds" ;;
             help) words="script trace draw world serve explore judge import threads help" ;;
         esac

@@ -17,6 +17,7 @@ complete -c automount_cli -n '__fish_seen_subcommand_from draw' -l from -x -d 'T
 complete -c automount_cli -n '__fish_seen_subcommand_from draw' -l to -x -d 'The last event, from 1'
 complete -c automount_cli -n '__fish_seen_subcommand_from world' -l namespace -x -d 'The mounts of one namespace alone'
 complete -c automount_cli -n '__fish_seen_subcommand_from explore' -l most -x -d 'The most states of one search'
+complete -c automount_cli -n '__fish_seen_subcommand_from explore' -l prefix -x -d 'The choices with which orders begin'
 complete -c automount_cli -n '__fish_seen_subcommand_from threads' -l walkers -x -d '1 to 16'
 complete -c automount_cli -n '__fish_seen_subcommand_from threads' -l workers -x -d '1 to 16'
 complete -c automount_cli -n '__fish_seen_subcommand_from threads' -l rounds -x -d '1 to 1000'

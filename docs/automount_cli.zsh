@@ -25,7 +25,8 @@ _automount_cli() {
                 trace) _arguments '--plain[leave out the numbers of lines]' ;;
                 draw) _arguments '--from[the first event, from 1]:number: ' '--to[the last event, from 1]:number: ' ;;
                 world) _arguments '--namespace[the mounts of one namespace alone]:number: ' ;;
-                explore) _arguments '--most[the most states of one search]:number: ' ;;
+                explore) _arguments '--most[the most states of one search]:number: ' \
+                    '--prefix[the choices with which orders begin]:numbers: ' ;;
                 threads) _arguments '--walkers[1 to 16]:number: ' '--workers[1 to 16]:number: ' \
                     '--rounds[1 to 1000]:number: ' ;;
                 help) _describe command commands ;;

@@ -35,7 +35,7 @@ COMMAND_LINES_THERE_ARE = b"""usage: automount_cli script|serve|judge|import < F
        automount_cli trace [--plain] < FILE
        automount_cli draw [--from N] [--to N] < FILE
        automount_cli world [--namespace N] < FILE
-       automount_cli explore [--most N] < FILE
+       automount_cli explore [--most N] [--prefix CHOICES] < FILE
        automount_cli threads [--walkers N] [--workers N] [--rounds N]
        automount_cli help [COMMAND]
        automount_cli --version
@@ -168,6 +168,8 @@ NO_COMMAND_LINES = [
     (["server"], near(b"serve")), (["serve", "x"], fed(b"serve", b"session")),
     (["explorer"], near(b"explore")), (["explore", "x"], fed(b"explore", b"scene")), (["explore", "--most", "0"], b""),
     (["explore", "--most", "4294967296"], b""), (["explore", "--most"], b""), (["explore", "--from", "1"], b""),
+    (["explore", "--prefix", "0"], b""), (["explore", "--prefix", "1,"], b""), (["explore", "--prefix"], b""),
+    (["explore", "--prefix", "4294967296"], b""), (["explore", "--prefix", "1", "--prefix", "2"], b""),
     (["judge", "x"], fed(b"judge", b"trace")), (["import", "x"], fed(b"import", b"mountinfo")),
     (["world", "--namespace", "one"], b""), (["world", "--namespace"], b""), (["world", "1"], fed(b"world")),
     (["world", "--namespace", "4294967296"], b""), (["world", "--from", "1"], b""),
@@ -281,21 +283,35 @@ never u waiting
 never t 1 fail *
 """
 WALKED_FIRST, WALKED_LAST = b"walk 1 0 /a 5 room\numount 0 /a\n", b"umount 0 /a\nwalk 1 0 /a 5 room\n"
-BOTH = b"# orders 2 states 5 ends 2\n"
+BOTH = b"# orders 2 states 5 ends 2 worlds 2\n"
 FOUND = (b"# line 9: yes, events 2\n" + WALKED_FIRST + b"# line 10: yes, events 2\n" + WALKED_LAST
          + b"# line 11: yes, events 2\n" + WALKED_FIRST + b"# line 12: no order\n# line 13: no order\n" + BOTH)
-# Texts that are no scenes: the line of the fault, and its word.
+# Texts that are no scenes, and what is told of each.
+SCENE_LINES, IN_ANSWER = b"thread, serve, sometimes, never or always", (
+    b"an answer: wait, at, err or fail with its words or *, or * alone")
 NO_SCENES = [
-    (b"", 1, b"NoEvents"), (b"x\n", 1, b"BadSection"), (b"events\nx\n", 2, b"BadEvent"), (TOO_LONG[0], 2, b"LongLine"),
-    (b"events\nthread t\nend\nleave 1\n", 4, b"BadLine"),
-    (b"events\nthread t\nend\nnever t waiting\nserve daemon\n", 5, b"LateLine"),
-    (b"events\nthread t u\nend\n", 2, b"BadThread"), (b"events\nthread t\nend\nthread t\nend\n", 4, b"ThreadTwice"),
-    (b"events\nthread t\nleave 1\n", 2, b"NoEnd"), (b"events\nthread t\nx\nend\n", 3, b"BadThreadEvent"),
-    (b"events\nserve daemon fail 10\n", 2, b"BadService"),
-    (b"events\nserve daemon\nserve daemon\n", 3, b"ServiceTwice"),
-    (b"events\nthread t\nend\nnever t\n", 4, b"BadQuestion"), (b"events\nnever t waiting\n", 2, b"NoSuchThread"),
-    (b"events\nthread t\nend\nnever t 1 *\n", 4, b"NoSuchEvent"),
-    (b"events\nthread t\nleave 1\nend\nnever t 1 ok\n", 5, b"BadAnswer"),
+    (b"", fault(1, b"NoEvents")), (b"x\n", placed(1, b"BadSection", b"x", 1, A_PART)),
+    (b"events\nx\n", placed(2, b"BadEvent", b"x", 1, AN_EVENT)), (TOO_LONG[0], TOO_LONG[1]),
+    (b"events\nthread t\nend\nleave 1\n", placed(4, b"BadLine", b"leave 1", 1, SCENE_LINES)),
+    (b"events\nthread t\nend\nnever t waiting\nserve daemon\n",
+     placed(5, b"LateLine", b"serve daemon", 1, b"sometimes, never or always, as above")),
+    (b"events\nthread t u\nend\n", placed(2, b"BadThread", b"thread t u", 10, b"the end of the line")),
+    (b"events\nthread t\nend\nthread t\nend\n",
+     placed(4, b"ThreadTwice", b"thread t", 8, b"a name that no thread above has")),
+    (b"events\nthread t\nleave 1\n", placed(2, b"NoEnd", b"thread t", 1, b"a line that is just end, below this one")),
+    (b"events\nthread t\nx\nend\n", placed(3, b"BadThreadEvent", b"x", 1, AN_EVENT)),
+    (b"events\nserve daemon fail 10\n",
+     placed(2, b"BadService", b"serve daemon fail 10", 19, b"the number of an error, 1 to 9")),
+    (b"events\nserve daemon\nserve daemon\n",
+     placed(3, b"ServiceTwice", b"serve daemon", 1,
+            b"thread, sometimes, never or always: how the daemon serves stands above")),
+    (b"events\nthread t\nend\nnever t\n",
+     placed(4, b"BadQuestion", b"never t", 8, b"the number of an event, or waiting")),
+    (b"events\nnever t waiting\n",
+     placed(2, b"NoSuchThread", b"never t waiting", 7, b"the name of a thread above, or a line of a world")),
+    (b"events\nthread t\nend\nnever t 1 *\n",
+     placed(4, b"NoSuchEvent", b"never t 1 *", 9, b"the number of an event of the thread, or waiting alone")),
+    (b"events\nthread t\nleave 1\nend\nnever t 1 ok\n", placed(5, b"BadAnswer", b"never t 1 ok", 11, IN_ANSWER)),
 ]
 COMMAND_LINES = [
     (["script"], b"# nothing\n", (0, b"", b"")),
@@ -313,19 +329,30 @@ COMMAND_LINES = [
     (["serve"], b"", (0, b"", b"")),
     (["serve"], b"events\nx\n" + SHORT[7:], (0, b".\nfault 2:1 BadEvent expected the word of an event\n.\nmount 2\n.\nerr 5\n.\n", b"")),
     (["explore"], ASKED, (0, FOUND, b"")), (["explore", "--most", "5"], ASKED, (0, FOUND, b"")),
-    (["explore"], b"events\n", (0, b"# orders 1 states 1 ends 1\n", b"")), (["explore"], SCENE, (0, BOTH, b"")),
-    (["explore", "--most", "1"], b"events\n", (0, b"# orders 1 states 1 ends 1\n", b"")),
-    (["explore"], SCENE + b"never t 1 at 2 *\n", (1, b"", fault(9, b"BadAnswer"))),
+    (["explore"], b"events\n", (0, b"# orders 1 states 1 ends 1 worlds 1\n", b"")), (["explore"], SCENE, (0, BOTH, b"")),
+    (["explore", "--most", "1"], b"events\n", (0, b"# orders 1 states 1 ends 1 worlds 1\n", b"")),
+    (["explore"], SCENE + b"never t 1 at 2 *\n",
+     (1, b"", placed(9, b"BadAnswer", b"never t 1 at 2 *", 11, IN_ANSWER))),
     (["explore"], SCENE + b"sometimes t waiting\nnever u 1 err *\n",
      (1, b"# line 9: no order\n# line 10: yes, events 2\n" + WALKED_FIRST + BOTH, b"")),
     (["explore"], SCENE + b"sometimes t waiting\nnever u waiting\n",
      (1, b"# line 9: no order\n# line 10: no order\n" + BOTH, b"")),
     (["explore"], SCENE + b"never u 1 err 3\nnever u waiting\n",
      (1, b"# line 9: yes, events 2\n" + WALKED_FIRST + b"# line 10: no order\n" + BOTH, b"")),
-    (["explore", "--most", "4"], ASKED, (3, b"".join(b"# line %d: not all seen\n" % line for line in range(9, 14))
-                                         + b"# not all seen, states 4\n", b"")),
-    (["explore", "--most", "1"], SCENE, (0, b"# not all seen, states 1\n", b"")),
-    *((["explore"], given, (1, b"", fault(line, word))) for given, line, word in NO_SCENES),
+    (["explore", "--most", "4"], ASKED, (3, b"".join(b"# line %d: not all seen, no order of fewer than 1 events\n" % line for line in range(9, 14))
+                                         + b"# not all seen, states 4 choices 2\n", b"")),
+    (["explore", "--most", "1"], SCENE, (0, b"# not all seen, states 1 choices 2\n", b"")),
+    (["explore", "--prefix", ""], ASKED, (0, FOUND, b"")), (["explore", "--prefix="], ASKED, (0, FOUND, b"")),
+    (["explore", "--prefix", "2"], SCENE + b"sometimes t 1 at 1 /a\nnever u 1 err 3\n",
+     (0, b"# line 9: yes, events 2\n" + WALKED_LAST + b"# line 10: no order\n# orders 1 states 2 ends 1 worlds 1\n", b"")),
+    (["explore", "--prefix", "1,1"], SCENE, (0, b"# orders 1 states 1 ends 1 worlds 1\n", b"")),
+    (["explore", "--most", "1", "--prefix", "1"], SCENE + b"never t waiting\n",
+     (3, b"# line 9: not all seen, no order of fewer than 1 events\n# not all seen, states 1 choices 1\n", b"")),
+    (["explore", "--prefix", "3"], ASKED, (1, b"", b"fault: prefix 1: NoSuchChoice\n")),
+    (["explore", "--prefix", "1,2,1"], ASKED, (1, b"", b"fault: prefix 2: NoSuchChoice\n")),
+    (["explore", "--prefix", "1"], b"events\n", (1, b"", b"fault: prefix 1: NoSuchChoice\n")),
+    (["explore", "--prefix", "1"], b"x\n", (1, b"", placed(1, b"BadSection", b"x", 1, A_PART))),
+    *((["explore"], given, (1, b"", said)) for given, said in NO_SCENES),
     # What was found is a script behind the events of its scene.
     *((["script"], b"events\nmount 0 /a\n" + order, (0, b"mount 2\n" + wrote, b""))
       for order, wrote in ((WALKED_FIRST, b"at 2 /\nerr 3\n"), (WALKED_LAST, b"gone 2\nat 1 /a\n"))),

@@ -7,9 +7,14 @@ usage: tools/explores.py
   pages that show scenes and what is found have those of the files;
 - each order is played, by the script that tools/order.py makes of it: it is one of the scene, and no event of it is out
   of memory; behind it nobody can go on; what the question asks for stands there; and `draw` takes it too;
-- with `--most N` each search is cut behind so many states, and tells what it found before that;
-- each fault of a scene is told with its line, and nothing is written; so are a reader that fails or ends within a line,
-  and a writer that takes nothing; other words are no command line.
+- with `--most N` each search is cut behind so many states, and tells what it found before that, and which orders it has
+  seen;
+- `--prefix` has the orders alone that begin with its choices: what the parts of a scene come to, one for each choice,
+  is what the whole comes to; of a number that no choice has its place is told, and a choice that is no step begins no
+  order;
+- on a terminal a search tells each second how far it is, and nowhere else;
+- each fault of a scene is told with its line and its place, and nothing is written; so are a reader that fails or ends
+  within a line, and a writer that takes nothing; other words are no command line.
 
 The last line counts the checks.
 """
@@ -17,19 +22,33 @@ The last line counts the checks.
 import concurrent.futures
 import glob
 import os
+import pty
 import re
+import select
 import subprocess
 import sys
+import time
 
 sys.dont_write_bytecode = True
 import order  # noqa: E402
+import places  # noqa: E402
 
 FOLDER = "examples/explore"
 #: The scene that docs/FORMATS.md shows, one with few states, and one of which an order isn't as asked.
 SHOWN, SMALL, REFUTED = "two_walkers", "a_failure", "a_wait_for_ever"
 PATIENCE = 300
 FORMATS, QUESTIONS = "docs/FORMATS.md", "docs/QUESTIONS.md"
-STATES = re.compile(r"# orders \d+ states (\d+) ends \d+")
+STATES = re.compile(r"# orders \d+ states (\d+) ends \d+ worlds \d+")
+ORDERS = re.compile(r"# orders (\d+) states \d+ ends \d+ worlds \d+")
+FEWER = re.compile(r"^# line (\d+): not all seen, no order of fewer than (\d+) events$", re.M)
+#: What is written of a part without an order, behind what is written of its questions.
+NO_ORDERS = "# orders 0 states 0 ends 0 worlds 0"
+#: What is told each second.
+PROGRESS = re.compile(r"explore: states (\d+), orders \d+, ends \d+\r?\n")
+#: A scene whose search takes seconds, by as many walkers as it is made with.
+MANY = "master\n/auto auto.home\nend\nmap auto.home\n* srv:/&\nend\nevents\nattach /auto\n"
+#: One in which a walker waits that nobody releases.
+WAITS = f"{MANY}thread a\nwalk 1 0 /auto/k 5 room\nresume 1 6 room\nend\nnever a 1 err *\n"
 
 A_THREAD = "events\nthread a\ndie\nend\n"
 #: Texts that are no scenes: the word of the fault, its line, and the text.
@@ -54,7 +73,9 @@ FAULTS = (
 #: The faults of scripts among them, and of scenes those that tools/commands.py comes to.
 OF_SCRIPTS, ELSEWHERE = {"BadSection", "BadEvent", "LongLine"}, {"NoMemory"}
 #: Words behind `explore` that are no command line.
-REFUSED = (["x"], ["--most"], ["--most", "0"], ["--most", "4294967296"], ["--most", "-1"], ["--least", "1"])
+REFUSED = (["x"], ["--most"], ["--most", "0"], ["--most", "4294967296"], ["--most", "-1"], ["--least", "1"],
+           ["--prefix"], *(["--prefix", it] for it in (
+               "0", "1,0", "4294967296", "01", "+1", "-1", "1,", ",1", "1,,2", "1 2", "1, 2", "a", "1,a", ",")))
 
 
 class Program:
@@ -82,9 +103,9 @@ def status_of(scene, found):
     claims = {line: words[0] for line, words in order.questions(scene).items()}
     if list(found) != list(claims):
         raise ValueError(f"the questions stand on the lines {list(claims)}, and were answered of {list(found)}")
-    others = [it for line, it in found.items() if it != ("no order" if claims[line] == "never" else it)
+    others = [it for line, it in found.items() if it != (it if claims[line] == "sometimes" else "no order")
               or it == "no order" and claims[line] == "sometimes"]
-    return 0 if not others else 3 if all(it == "not all seen" for it in others) else 1
+    return 0 if not others else 3 if all(order.is_cut(it) for it in others) else 1
 
 
 # What is played of an order
@@ -150,7 +171,20 @@ def fits(words, answer):
     return words == ["*"] or words[1:] == ["*"] and answer.split(" ")[0] == words[0] or " ".join(words) == answer
 
 
-def meets(scene, question, stand):
+def asks_of_text(scene, question):
+    """Whether the question is one on the text of the world."""
+    return question[0] == "always" or question[1] not in scene.threads
+
+
+def has_line(world, words):
+    """Whether a text has a line of these words, where a star is any one word."""
+    rows = [[it for it in re.split("[ \t]", line) if it] for line in world.split("\n")]
+    return any(len(row) == len(words) and all(it in ("*", word) for it, word in zip(words, row)) for row in rows)
+
+
+def meets(scene, question, stand, world):
+    if asks_of_text(scene, question):
+        return has_line(world, question[1:]) == (question[0] != "always")
     name, what, *words = question[1:]
     at, heard = stand[list(scene.threads).index(name)]
     if what == "waiting":
@@ -158,21 +192,25 @@ def meets(scene, question, stand):
     return any(number == int(what) and fits(words, answer) for number, answer in heard)
 
 
-def left(program, scene, script, stand):
+def world_behind(program, script):
+    status, world, said = program.run(["world"], script)
+    if (status, said) != (0, ""):
+        raise ValueError(f"the world behind an order: {said}")
+    return world
+
+
+def left(scene, stand, world):
     """What may come next, by the world behind an order and by where its threads stand."""
     found = [events[at] for events, (at, _) in zip(scene.threads.values(), stand) if at < len(events)]
     if scene.serves:
-        status, world, said = program.run(["world"], script)
-        if (status, said) != (0, ""):
-            raise ValueError(f"the world behind an order: {said}")
         found += [f"deliver {it}" for it in re.findall(r"^# queued (\d+) ", world, re.M)]
         found += [f"act {it} {way}" for it in re.findall(r"^# job (\d+) ", world, re.M) for way in scene.ways]
     return found
 
 
-def is_end(program, scene, script, stand):
+def is_end(program, scene, script, stand, world):
     """Whether nothing of that is a step; what is refused changes nothing, so that one can be tried behind another."""
-    events = left(program, scene, script, stand)
+    events = left(scene, stand, world)
     told = program.answers(script + "".join(f"{it}\n" for it in events))
     told = told[len(told) - len(events):]
     return all(it.startswith("err ") if scene.is_daemons(event) else it == "err 11" for event, it in zip(events, told))
@@ -185,7 +223,9 @@ def is_met(program, text, question, events):
     own = answers[len(answers) - len(events):]
     if "err 10" in answers:
         return False
-    return any(meets(scene, question, it) and is_end(program, scene, script, it) for it in stands(scene, events, own))
+    world = world_behind(program, script)
+    return any(meets(scene, question, it, world) and is_end(program, scene, script, it, world)
+               for it in stands(scene, events, own))
 
 
 def is_drawn(program, text, events):
@@ -196,10 +236,17 @@ def is_drawn(program, text, events):
 
 # Searches that are cut
 
+def first_choices(program, text):
+    """What may come first in a scene."""
+    scene, script = Scene(text), order.script_of(text)
+    return left(scene, [(resumes(it), ()) for it in scene.threads.values()], world_behind(program, script))
+
+
 def is_cut_at_once(program, text):
     """One state alone is looked at, and there are more."""
-    lines = [f"# line {it}: not all seen\n" for it in order.questions(text)]
-    return program.run(["explore", "--most", "1"], text) == (3, "".join(lines) + "# not all seen, states 1\n", "")
+    lines = [f"# line {it}: not all seen, no order of fewer than 0 events\n" for it in order.questions(text)]
+    last = f"# not all seen, states 1 choices {len(first_choices(program, text))}\n"
+    return program.run(["explore", "--most", "1"], text) == (3, "".join(lines) + last, "")
 
 
 def is_cut(program, text, whole, most):
@@ -208,9 +255,13 @@ def is_cut(program, text, whole, most):
     found, last = order.findings(wrote)
     all_found, all_last = order.findings(whole)
     states = int(STATES.fullmatch(all_last)[1])
-    if any(it not in ("not all seen", all_found[line]) for line, it in found.items()):
+    if any(not order.is_cut(it) and it != all_found[line] for line, it in found.items()):
         return False
-    if last != (all_last if most >= states else f"# not all seen, states {most}") or most >= states and wrote != whole:
+    orders = {line: it for line, it in all_found.items() if isinstance(it, list)}
+    if any(len(orders.get(int(line), wrote)) < int(fewer) for line, fewer in FEWER.findall(wrote)):
+        return False
+    cut = f"# not all seen, states {most} choices {len(first_choices(program, text))}"
+    if last != (all_last if most >= states else cut) or most >= states and wrote != whole:
         return False
     return (status, said) == (status_of(text, found), "")
 
@@ -220,8 +271,105 @@ def is_refuted_and_cut(program):
     text, whole = (order.text_of(f"{FOLDER}/{REFUTED}.{it}") for it in ("scene", "found"))
     most = int(STATES.search(whole)[1]) - 1
     status, wrote, said = program.run(["explore", "--most", str(most)], f"{text}never death 1 err *\n")
-    found = [*order.findings(whole)[0].values(), "not all seen"]
-    return (status, said) == (1, "") and list(order.findings(wrote)[0].values()) == found
+    *found, last = order.findings(wrote)[0].values()
+    return (status, said) == (1, "") and found == list(order.findings(whole)[0].values()) and order.is_cut(last)
+
+
+# Parts of a scene
+
+def part_of(program, text, prefix):
+    """What is found of the orders that begin with the choices of these numbers, and how many there are."""
+    status, wrote, said = program.run(["explore", "--prefix", prefix], text)
+    found, last = order.findings(wrote)
+    if (status, said) != (status_of(text, found), "") or last == NO_ORDERS and set(found.values()) - {"no order"}:
+        raise ValueError(f"--prefix {prefix}: {said or wrote}")
+    return found, int(ORDERS.fullmatch(last)[1])
+
+
+def of_parts(parts):
+    """What parts come to: the shortest order of each question, that of the first part among those of one length; and
+    how many orders there are."""
+    found = {line: min((it[line] for it, _ in parts if isinstance(it[line], list)), key=len, default="no order")
+             for line in parts[0][0]}
+    return found, sum(orders for _, orders in parts)
+
+
+def are_parts_whole(program, text, wrote):
+    """Whether its parts, one for each choice, come to what the whole does, and each begins with its choice."""
+    events = first_choices(program, text)
+    parts = [part_of(program, text, str(number + 1)) for number in range(len(events))]
+    found, last = order.findings(wrote)
+    begin_so = all(it[:1] == [event] for event, (orders, _) in zip(events, parts) for it in orders.values()
+                   if isinstance(it, list))
+    return begin_so and of_parts(parts) == (found, int(ORDERS.fullmatch(last)[1]))
+
+
+def are_parts_of_parts_whole(program, text):
+    """The same of each part that has an order, by two choices: there are as many as it says where it is cut."""
+    tried = 0
+    for number in range(1, len(first_choices(program, text)) + 1):
+        whole = part_of(program, text, str(number))
+        cut = program.run(["explore", "--most", "1", "--prefix", str(number)], text)
+        count = re.fullmatch(r"# not all seen, states 1 choices (\d+)", order.findings(cut[1])[1])
+        if count:
+            parts = [part_of(program, text, f"{number},{it}") for it in range(1, int(count[1]) + 1)]
+            tried += 1
+            if of_parts(parts) != whole or {int(it) for _, it in FEWER.findall(cut[1])} != {1}:
+                return False
+    return tried > 0
+
+
+def is_no_choice(program, text, prefix, place):
+    """A number that no choice has at this place of the prefix."""
+    return program.run(["explore", "--prefix", prefix], text) == (1, "", f"fault: prefix {place}: NoSuchChoice\n")
+
+
+def is_no_step(program, text):
+    """A walker is resumed that nobody has released, whatever comes first."""
+    lines = "".join(f"# line {it}: no order\n" for it in order.questions(text))
+    status, wrote, said = program.run(["explore", "--prefix", "1,1"], text)
+    return (status, wrote, said) == (0, f"{lines}{NO_ORDERS}\n", "")
+
+
+# What is told on a terminal
+
+def many(walkers):
+    threads = "".join(f"thread w{it}\nwalk {it} 0 /auto/k{it} 5 room\nresume {it} 6 room\nend\n"
+                      for it in range(1, walkers + 1))
+    return f"{MANY}{threads}serve daemon fail 1\n"
+
+
+def on_terminal(program, text, seconds):
+    """The lines that the program tells on a terminal, and how long it ran: no longer than this."""
+    ours, its = pty.openpty()
+    began, told = time.monotonic(), b""
+    with subprocess.Popen([program.path, "explore"], stdin=subprocess.PIPE, stdout=subprocess.DEVNULL,
+                          stderr=its) as run:
+        os.close(its)
+        run.stdin.write(text.encode())
+        run.stdin.close()
+        while run.poll() is None and time.monotonic() < began + seconds:
+            if select.select([ours], [], [], 0.1)[0]:
+                try:
+                    told += os.read(ours, 4096)
+                except OSError:
+                    break
+        took = time.monotonic() - began
+        run.kill()
+    os.close(ours)
+    return told[:told.rfind(b"\n") + 1].decode(), took
+
+
+def is_told_each_second(program):
+    """Each second a line, whose states rise; nothing of a search that takes less."""
+    for walkers in (2, 3, 4):
+        told, took = on_terminal(program, many(walkers), 5)
+        states = [int(it[1]) for it in PROGRESS.finditer(told)]
+        if PROGRESS.sub("", told) or states != sorted(states) or len(states) > took:
+            return False
+        if took > 3:
+            return len(states) >= 2
+    return True
 
 
 # The pages
@@ -251,6 +399,14 @@ def are_all_tried():
 
 def fault(line, word):
     return 1, "", f"fault: line {line}: {word}\n"
+
+
+def is_told(program, given, line, word):
+    """Whether this fault is told with its place, if it has one, and nothing is written."""
+    status, wrote, said = program.run(["explore"], given)
+    if (status, wrote) != (1, "") or not said.startswith(fault(line, word)[2]):
+        return False
+    return places.problem(given.encode(), said.encode()) or True
 
 
 def is_read_failed(program):
@@ -288,6 +444,9 @@ def checks_of(program, name):
             yield f"{name}: its picture", lambda events=events: is_drawn(program, text, events)
     if name != SHOWN:
         yield f"{name}: what {QUESTIONS} shows", lambda: is_shown(name)
+    yield f"{name}: its parts", lambda: are_parts_whole(program, text, found)
+    yield f"{name}: a number behind its choices", lambda: is_no_choice(
+        program, text, str(len(first_choices(program, text)) + 1), 1)
 
 
 def checks(program):
@@ -306,16 +465,22 @@ def checks(program):
         yield f"{SMALL}: {most} states", lambda most=most: is_cut(program, small, whole, most)
     script = order.text_of("examples/first.script")
     yield "a script is a scene that asks nothing", lambda: program.run(["explore"], script) == (
-        0, "# orders 1 states 1 ends 1\n", "")
+        0, "# orders 1 states 1 ends 1 worlds 1\n", "")
+    yield "a script has no choice", lambda: is_no_choice(program, script, "1", 1)
+    for words in (["--prefix", ""], ["--prefix="]):
+        yield f"an empty prefix: {words}", lambda words=words: program.run(
+            ["explore", *words], scene)[1:] == (found, "")
+    yield f"{SMALL}: the parts of its parts", lambda: are_parts_of_parts_whole(program, small)
+    yield "a number that the second choice hasn't", lambda: is_no_choice(program, small, "1,4294967295,1", 2)
+    yield "a choice that is no step", lambda: is_no_step(program, WAITS)
+    yield "what a terminal is told", lambda: is_told_each_second(program)
     yield "what isn't as asked goes before what wasn't all seen", lambda: is_refuted_and_cut(program)
     for word, line, text in FAULTS:
-        yield f"{word}: {text[-40:]!r}", lambda word=word, line=line, text=text: program.run(
-            ["explore"], text) == fault(line, word)
+        yield f"{word}: {text[-40:]!r}", lambda word=word, line=line, text=text: is_told(program, text, line, word)
     yield f"each fault of {FORMATS} is tried", are_all_tried
     end = scene.index("resume 2")
-    yield "a reader that ends within a thread", lambda: program.run(["explore"], scene[:end]) == fault(13, "NoEnd")
-    yield "a reader that ends within a line", lambda: program.run(
-        ["explore"], scene[:end + 8]) == fault(15, "BadThreadEvent")
+    yield "a reader that ends within a thread", lambda: is_told(program, scene[:end], 13, "NoEnd")
+    yield "a reader that ends within a line", lambda: is_told(program, scene[:end + 8], 15, "BadThreadEvent")
     yield "a reader that fails", lambda: is_read_failed(program)
     yield "a writer that takes nothing", lambda: is_write_failed(program, small)
     for words in REFUSED:

@@ -21,7 +21,7 @@ def with_options(parts, option):
 def of_program():
     """The commands and options that the command line is read by."""
     parts = re.split(r'Command::new\(alloc, "(\w+)"\)', text_of(COMMANDS))
-    found = with_options(parts, r'\b(?:option(?:_or)?|flag)\(alloc, "(\w+)"')
+    found = with_options(parts, r'\b(?:option(?:_or)?|word|flag)\(alloc, "(\w+)"')
     # The first is the program itself.
     found.pop("automount_cli")
     return found

@@ -14,9 +14,9 @@ import subprocess
 import sys
 
 #: The words with which the lines of a scene begin, behind those of its script.
-WORDS = ("thread", "serve", "sometimes", "never")
-QUESTIONS = ("sometimes", "never")
-FOUND = re.compile(r"# line (\d+): (?:yes, events (\d+)|(no order|not all seen(?:, no order of fewer than \d+ events)?))")
+WORDS = ("thread", "serve", "sometimes", "never", "always")
+QUESTIONS = ("sometimes", "never", "always")
+FOUND = re.compile(r"# line (\d+): (?:yes, events (\d+)|(no order|not all seen, no order of fewer than \d+ events))")
 
 
 def lines_of(text):
@@ -65,6 +65,11 @@ def findings(wrote):
         found[int(said[1])] = said[3] or lines[:count]
         del lines[:count]
     return found, last
+
+
+def is_cut(found):
+    """Whether that says that not all was seen."""
+    return isinstance(found, str) and found.startswith("not all seen")
 
 
 def text_of(path):

@@ -1,4 +1,5 @@
-"""What the program tells below the fault of a script, looked at by itself (docs/FORMATS.md, "Below a fault")."""
+"""What the program tells below the fault of a script or a scene, looked at by itself (docs/FORMATS.md, "Below a
+fault")."""
 
 import functools
 import re
@@ -6,8 +7,10 @@ import re
 FORMATS = "docs/FORMATS.md"
 # How many bytes of a line are shown, up to which column from its beginning, and how many stand before a column behind that.
 WIDTH, FIRST, BEFORE = 72, 60, 40
-# Faults that no word of the script has.
-NO_PLACE = (b"NoMemory", b"ReadFailed", b"WriteFailed")
+# Faults that no word of the script or the scene has.
+NO_PLACE = (b"NoMemory", b"ReadFailed", b"WriteFailed", b"NoEvents")
+# The last column of these tables of the page has what may be expected.
+TABLES = ("| N | Expected |", "| Fault | Place | Expected |")
 FAULT = re.compile(rb"fault: line (\d+): (\w+)")
 POINTER = re.compile(rb"( +)\^ column (\d+): expected (.*)")
 JOINED = re.compile(rb"  column (\d+) of the joined line: expected (.*)")
@@ -18,10 +21,12 @@ PADDED = re.compile(rb"  line (\d+) is end with a blank beside it, which ends no
 
 @functools.cache
 def expectations():
-    """What may be expected, in words: a table of the page."""
+    """What may be expected, in words."""
     with open(FORMATS, encoding="utf-8") as file:
-        rows = file.read().partition("\n| N | Expected |\n")[2].partition("\n\n")[0].split("\n")[1:]
-    return {row.strip("| ").split(" | ", 1)[1].encode() for row in rows}
+        text = file.read()
+    rows = [(row, it.count(" | ")) for it in TABLES
+            for row in text.partition(f"\n{it}\n")[2].partition("\n\n")[0].split("\n")[1:]]
+    return {row.strip("| ").split(" | ", before)[-1].encode() for row, before in rows}
 
 
 def first(said):

@@ -4,7 +4,8 @@ use Rattle.clap.proofs.OnLiterals.{clap_on_literals}
 use Rattle.clap.specs.Words.{IsAmong, Row, Text, fault_of, first_of, is_simple_and_free, subcommand_of}
 use Rattle.clap.specs.declared.error.kind.ErrorKind.{ErrorKind}
 use Rattle.clap.specs.declared.error.kind.ErrorKind.TheVariants as answers
-use Rattle.am_cli.specs.Args.{IsInRange, IsNumberUpTo, IsUpTo}
+use Rattle.am_cli.specs.Args.{IsInRange, IsNumberUpTo, IsUpTo, RefusedFor}
+use Rattle.am_cli.specs.Choices.{prefix_of}
 use Rattle.am_cli.specs.CommandLine.{AnswersBy, Asks, AsksFor, AsksForNone, AsksNothing, IsAsked, IsNumber, IsNumberIn, IsRefused, IsRefusedBy, cli, flagged, helped}
 use Rattle.am_cli.specs.declared.args.Args.{Args}
 use Rattle.am_cli.specs.declared.args.Args.TheVariants.{Trace, Draw, World, Explore, Threads, Help, Version}
@@ -18,6 +19,24 @@ pub in_any_err : {T E : Type 0} (P : Type 0) (r : Result T E) → P → IfErr r 
 in_any_err P (Ok value) p = tt
 in_any_err P (Err e) p = p
 
+-- where it is an error, it is refused for that, whichever it is
+pub refused_so : (why : Type 0) (fault : ArgsFault) → why → RefusedFor why fault
+refused_so why NoMemory p = tt
+refused_so why Usage p = p
+
+pub refused_for : {T : Type 0} (why : Type 0) (r : Result T ArgsFault) → IfErr r (λ _. why) → IfErr r (RefusedFor why)
+refused_for why (Ok value) p = tt
+refused_for why (Err fault) p = refused_so why fault p
+
+pub in_any_fault : {T : Type 0} (why : Type 0) (r : Result T ArgsFault) → why → IfErr r (RefusedFor why)
+in_any_fault why (Ok value) p = tt
+in_any_fault why (Err fault) p = refused_so why fault p
+
+-- what is refused for one reason is for another one that follows
+pub refused_then : {why other : Type 0} (fault : ArgsFault) → (why → other) → RefusedFor why fault → RefusedFor other fault
+refused_then NoMemory follows p = tt
+refused_then Usage follows p = follows p
+
 -- ---- a command with an option that is out of its range asks for nothing
 
 pub no_draw : (rows : List Row) → ((first last : ℕ) → IsNumber rows (codes "from") first → IsNumber rows (codes "to") last → IsInRange (Draw first last) → ⊥) → AsksForNone topics.Draw rows
@@ -28,10 +47,13 @@ pub no_world : (rows : List Row) → ((namespace : Option ℕ) → IsNumberIn ro
 no_world rows refuses (World namespace) asks range = refuses namespace asks range
 no_world rows refuses _ asks range = absurd asks
 
-pub no_explore : (rows : List Row) → ((most : ℕ) → IsNumber rows (codes "most") most → IsInRange (Explore most) → ⊥)
-    → AsksForNone topics.Explore rows
-no_explore rows refuses (Explore most) asks range = refuses most asks range
+pub no_explore : (rows : List Row) → ((most : ℕ) → IsNumber rows (codes "most") most → IsUpTo 4294967295 most → ⊥) → AsksForNone topics.Explore rows
+no_explore rows refuses (Explore most prefix) asks range = refuses most asks.0 range
 no_explore rows refuses _ asks range = absurd asks
+
+pub no_prefix : (rows : List Row) → prefix_of (first_of (codes "prefix") rows) ≡ None → AsksForNone topics.Explore rows
+no_prefix rows refuses (Explore most prefix) asks range = absurd (let other : Some prefix.items ≡ None = sym asks.1 ∙ refuses in cc)
+no_prefix rows refuses _ asks range = absurd asks
 
 pub no_threads : (rows : List Row) → ((walkers workers rounds : ℕ) → IsNumber rows (codes "walkers") walkers → IsNumber rows (codes "workers") workers → IsNumber rows (codes "rounds") rounds → IsInRange (Threads walkers workers rounds) → ⊥) → AsksForNone topics.Threads rows
 no_threads rows refuses (Threads walkers workers rounds) asks range = refuses walkers workers rounds asks.0 asks.1 asks.2 range
@@ -54,7 +76,7 @@ is_free = refl
 pub asked_taken : (words : List Text) (args : Args) → fault_of cli words ≡ [] → Asks (subcommand_of cli words) args → IsAsked words args
 asked_taken words args free asks = inl (free, asks)
 
-pub refused_taken : (words : List Text) (fault : ArgsFault) → fault_of cli words ≡ [] → AsksNothing (subcommand_of cli words) → IsRefused words fault
+pub refused_taken : (words : List Text) (fault : ArgsFault) → fault_of cli words ≡ [] → RefusedFor (AsksNothing (subcommand_of cli words)) fault → IsRefused words fault
 refused_taken words NoMemory free none = tt
 refused_taken words Usage free none = inr (free, none)
 

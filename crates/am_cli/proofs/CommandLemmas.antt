@@ -8,6 +8,7 @@ use Rattle.clap.specs.Words.{AddsSubcommand, App, ReadsOne, Row, Text, first_of,
 use Rattle.std.specs.Str.Parse.{ParsesUnsigned, digits_value, without_leading_plus}
 use Rattle.am_cli.specs.{IsCommand, IsNumber}
 use Rattle.am_cli.specs.Args.{IsNumberUpTo}
+use Rattle.am_cli.specs.Choices.{prefix_of}
 use Rattle.am_cli.specs.CommandLine.{IsNumberIn, flagged, helped}
 
 -- a command has one more
@@ -61,3 +62,7 @@ helped_is found id read e = ap helped (sym (e ∙ first_value-rows found id))
 -- whether an option that has no value stands there, by the word that is read
 pub flagged_is : (found : Found) (id : Text) (read : Option Text) → read ≡ first_value found id → flagged (first_of id (rows_of found)) ≡ flagged read
 flagged_is found id read e = ap flagged (sym (e ∙ first_value-rows found id))
+
+-- which choices a word names, by the word that is read
+pub prefix_is : (found : Found) (id : Text) (read : Option Text) → read ≡ first_value found id → prefix_of (first_of id (rows_of found)) ≡ prefix_of read
+prefix_is found id read e = ap prefix_of (sym (e ∙ first_value-rows found id))

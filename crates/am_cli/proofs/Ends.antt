@@ -1,6 +1,8 @@
 -- Each way in which the program ends.
 use Rattle.std.proofs.Common.{◌≡◌, ℕ, Bool, List, [], Option, None, Some, refl, subst, ◌⊎◌, inl, inr, codes}
 use Rattle.std.specs.Io.KnownBytes.{Appends}
+use Rattle.std.specs.Prelude.{Vec}
+use Rattle.std.specs.declared.alloc.Global.{Global}
 use Rattle.am_mountinfo.specs.{ShowsInput, StopsShowing}
 use Rattle.am_recall.specs.declared.recalled.Recalled.{Recalled}
 use Rattle.am_runner.specs.{IsTally, Tally}
@@ -10,7 +12,7 @@ use Rattle.am_cli.specs.{JudgeStopped, Served, ServeStopped, Explored, ExploreSt
 use Rattle.am_cli.specs.{Untold, NotRun, Helped, NotHelped, Versioned, NotVersioned, rounds_line, status_of_findings}
 use Rattle.am_cli.specs.{status_of_verdict, style_of, SaysWhole}
 use Rattle.am_cli.specs.Help.{help_text, version_line}
-use Rattle.am_cli.specs.Telling.{explore_told, import_told, judge_told, script_told, Tells, TellsFault, word_told}
+use Rattle.am_cli.specs.Telling.{import_told, judge_told, script_told, Tells, TellsExplore, TellsFault, word_told}
 use Rattle.am_draw.specs.{DrawsInput, StopsDrawing}
 use Rattle.am_findings.specs.{ExploresInput, StopsExploring, ExploreFault}
 use Rattle.am_findings.specs.declared.verdict.Verdict.{Verdict as Findings}
@@ -54,19 +56,21 @@ ends_served recalled input rest old new quiet serves = record { end = Served; as
 pub ends_serve_stopped : (recalled : Recalled) (input rest old new quiet told : Option (List ℕ)) (fault : ScriptFault) → StopsServing input rest old new fault → Tells quiet told (script_told fault []) → Exits Serve recalled input rest old new quiet told 1
 ends_serve_stopped recalled input rest old new quiet told fault stops tells = record { end = ServeStopped fault; asked_is = refl; status_is = refl; streams = (stops, tells) }
 
-pub ends_explored : (recalled : Recalled) (most states : ℕ) → states ≡ most
+pub ends_explored : (recalled : Recalled) (most states : ℕ) (prefix : Vec ℕ Global) (choices : List ℕ)
+    → states ≡ most → choices ≡ prefix.items
     → (input rest old new quiet : Option (List ℕ)) (findings : Findings) (status : ℕ)
-    → ExploresInput states input rest old new findings → status ≡ status_of_findings findings
-    → Exits (Explore most) recalled input rest old new quiet quiet status
-ends_explored recalled most states is input rest old new quiet findings status explores e = record
-    { end = Explored states findings; asked_is = cc; status_is = e; streams = (explores, refl) }
+    → ExploresInput states choices input rest old new findings → status ≡ status_of_findings findings
+    → Exits (Explore most prefix) recalled input rest old new quiet quiet status
+ends_explored recalled most states prefix choices is same input rest old new quiet findings status explores e = record
+    { end = Explored states prefix findings; asked_is = cc; status_is = e; streams = (subst (λ (cs : List ℕ). ExploresInput states cs input rest old new findings) same explores, refl) }
 
-pub ends_explore_stopped : (recalled : Recalled) (most states : ℕ) → states ≡ most
+pub ends_explore_stopped : (recalled : Recalled) (most states : ℕ) (prefix : Vec ℕ Global) (choices : List ℕ)
+    → states ≡ most → choices ≡ prefix.items
     → (input rest old new quiet told : Option (List ℕ)) (fault : ExploreFault)
-    → StopsExploring states input rest old new fault → Tells quiet told (explore_told fault)
-    → Exits (Explore most) recalled input rest old new quiet told 1
-ends_explore_stopped recalled most states is input rest old new quiet told fault stops tells = record
-    { end = ExploreStopped states fault; asked_is = cc; status_is = refl; streams = (stops, tells) }
+    → StopsExploring states choices input rest old new fault → TellsExplore recalled fault quiet told
+    → Exits (Explore most prefix) recalled input rest old new quiet told 1
+ends_explore_stopped recalled most states prefix choices is same input rest old new quiet told fault stops tells = record
+    { end = ExploreStopped states prefix fault; asked_is = cc; status_is = refl; streams = (subst (λ (cs : List ℕ). StopsExploring states cs input rest old new fault) same stops, tells) }
 
 pub ends_judged : (recalled : Recalled) (input rest old new quiet : Option (List ℕ)) (verdict : Verdict) (status : ℕ) → JudgesInput input rest old new verdict → status ≡ status_of_verdict verdict → Exits Judge recalled input rest old new quiet quiet status
 ends_judged recalled input rest old new quiet verdict status judges e = record { end = Judged verdict; asked_is = refl; status_is = e; streams = (judges, refl) }

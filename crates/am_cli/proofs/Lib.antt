@@ -1,4 +1,5 @@
 pub mod AskedLemmas
+pub mod ChoiceLemmas
 pub mod CommandLemmas
 pub mod Ends
 pub mod PartLemmas

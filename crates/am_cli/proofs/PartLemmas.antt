@@ -6,10 +6,11 @@ use Rattle.std.proofs.lemmas.List.{take_all, take-append-le, take_more}
 use Rattle.std.proofs.lemmas.Grind.{flat_map-append}
 use Rattle.std.specs.List.{flat_map}
 use Rattle.std.specs.Io.KnownBytes.{Appends}
+use Rattle.am_explore.specs.{Tally}
 use Rattle.am_script.proofs.Writes.{appends_more}
 use Rattle.am_cli.specs.Help.{usage_text}
 use Rattle.am_cli.specs.Hints.{hint_told}
-use Rattle.am_cli.specs.Telling.{IsCut, Tells, line_told, place_told, word_told}
+use Rattle.am_cli.specs.Telling.{IsCut, Tells, choice_told, line_told, place_told, tally_told, word_told}
 use Rattle.am_cli.specs.Topics.{input_of, name_of}
 use Rattle.am_cli.specs.declared.hints.Hint.{Hint}
 use Rattle.am_cli.specs.declared.hints.Hint.TheVariants.{Near, Input}
@@ -92,3 +93,13 @@ input_parts quiet told hint topic input name usage is fed named lines tells =
     (subst (λ (t : List ℕ). Tells quiet told (flat_map (λ part. part) (codes "fault: Usage\nthe " ∷ input_of topic ∷ codes " is read from standard input: automount_cli " ∷ name_of topic ∷ codes " < FILE\n" ∷ t ∷ []))) lines
     (subst (λ (t : List ℕ). Tells quiet told (flat_map (λ part. part) (codes "fault: Usage\nthe " ∷ input_of topic ∷ codes " is read from standard input: automount_cli " ∷ t ∷ codes " < FILE\n" ∷ usage ∷ []))) named
     (subst (λ (t : List ℕ). Tells quiet told (flat_map (λ part. part) (codes "fault: Usage\nthe " ∷ t ∷ codes " is read from standard input: automount_cli " ∷ name ∷ codes " < FILE\n" ∷ usage ∷ []))) fed tells)))
+
+pub choice_parts : (quiet told : Option (List ℕ)) (place : ℕ) (digits : List ℕ) → digits ≡ decimal place → Tells quiet told (flat_map (λ part. part) (codes "fault: prefix " ∷ digits ∷ codes ": NoSuchChoice\n" ∷ [])) → Tells quiet told (choice_told place)
+choice_parts quiet told place digits number tells =
+    subst (λ (t : List ℕ). Tells quiet told (flat_map (λ part. part) (codes "fault: prefix " ∷ t ∷ codes ": NoSuchChoice\n" ∷ []))) number tells
+
+pub tally_parts : (quiet told : Option (List ℕ)) (tally : Tally) (states orders ends : List ℕ) → states ≡ decimal tally.states → orders ≡ decimal tally.orders → ends ≡ decimal tally.ends → Tells quiet told (flat_map (λ part. part) (codes "explore: states " ∷ states ∷ codes ", orders " ∷ orders ∷ codes ", ends " ∷ ends ∷ codes "\n" ∷ [])) → Tells quiet told (tally_told tally)
+tally_parts quiet told tally states orders ends are_states are_orders are_ends tells =
+    subst (λ (t : List ℕ). Tells quiet told (flat_map (λ part. part) (codes "explore: states " ∷ decimal tally.states ∷ codes ", orders " ∷ decimal tally.orders ∷ codes ", ends " ∷ t ∷ codes "\n" ∷ []))) are_ends
+    (subst (λ (t : List ℕ). Tells quiet told (flat_map (λ part. part) (codes "explore: states " ∷ decimal tally.states ∷ codes ", orders " ∷ t ∷ codes ", ends " ∷ ends ∷ codes "\n" ∷ []))) are_orders
+    (subst (λ (t : List ℕ). Tells quiet told (flat_map (λ part. part) (codes "explore: states " ∷ t ∷ codes ", orders " ∷ orders ∷ codes ", ends " ∷ ends ∷ codes "\n" ∷ []))) are_states tells))

@@ -12,6 +12,11 @@ abbrev pub fault_number : ArgsFault → ℕ
 fault_number NoMemory = 1
 fault_number Usage = 2
 
+-- it is refused for that, or memory ran out
+abbrev pub RefusedFor : Type 0 → ArgsFault → Type 0
+RefusedFor why NoMemory = ⊤
+RefusedFor why Usage = why
+
 -- from 1 to the most
 abbrev pub IsUpTo : ℕ → ℕ → Type 0
 IsUpTo most number = (1 ≤ number) × (number ≤ most)
@@ -28,7 +33,7 @@ IsInRange (Trace plain) = ⊤
 IsInRange (Draw first last) = IsUpTo 4294967295 first × IsUpTo 4294967295 last
 IsInRange (World namespace) = IsNumberUpTo 4294967295 namespace
 IsInRange Serve = ⊤
-IsInRange (Explore most) = IsUpTo 4294967295 most
+IsInRange (Explore most prefix) = IsUpTo 4294967295 most
 IsInRange Judge = ⊤
 IsInRange Import = ⊤
 IsInRange (Threads walkers workers rounds) = IsUpTo 16 walkers × IsUpTo 16 workers × IsUpTo 1000 rounds

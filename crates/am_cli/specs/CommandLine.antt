@@ -18,6 +18,7 @@ use Rattle.am_cli.specs.declared.args.ArgsFault.TheVariants.{NoMemory, Usage}
 use Rattle.am_cli.specs.declared.topics.Topic.{Topic}
 use Rattle.am_cli.specs.declared.topics.Topic.TheVariants as topics
 use Rattle.am_cli.specs.Args.{IsInRange}
+use Rattle.am_cli.specs.Choices.{prefix_of}
 use Rattle.am_cli.specs.Topics.{topic_named, topic_of}
 
 -- ---- the commands
@@ -33,6 +34,10 @@ number_rule name = record (new_rule name) {
 -- it is this number where it is left out
 abbrev pub default_rule : Text → Text → Rule
 default_rule name default = record (number_rule name) { defaults = default ∷ [] }
+
+-- an option that is a word
+abbrev pub word_rule : Text → Rule
+word_rule name = record (new_rule name) { long = Some name; action = Some Set }
 
 -- an option that has no value
 abbrev pub flag_rule : Text → Rule
@@ -60,9 +65,11 @@ world_app = with_rule (new_app (codes "world")) (number_rule (codes "namespace")
 abbrev pub serve_app : App
 serve_app = new_app (codes "serve")
 
--- the command `explore`, with how many states one search looks at
+-- the command `explore`, with how many states one search looks at, and the choices with which orders begin
 abbrev pub explore_app : App
-explore_app = with_rule (new_app (codes "explore")) (default_rule (codes "most") (codes "1000000"))
+explore_app =
+    with_rule (with_rule (new_app (codes "explore")) (default_rule (codes "most") (codes "1000000")))
+    (word_rule (codes "prefix"))
 
 -- the command `judge`, which has no options
 abbrev pub judge_app : App
@@ -157,7 +164,8 @@ AsksFor topics.Draw rows (Draw first last) =
     IsNumber rows (codes "from") first × IsNumber rows (codes "to") last
 AsksFor topics.World rows (World namespace) = IsNumberIn rows (codes "namespace") namespace
 AsksFor topics.Serve rows Serve = ⊤
-AsksFor topics.Explore rows (Explore most) = IsNumber rows (codes "most") most
+AsksFor topics.Explore rows (Explore most prefix) =
+    IsNumber rows (codes "most") most × (prefix_of (first_of (codes "prefix") rows) ≡ Some prefix.items)
 AsksFor topics.Judge rows Judge = ⊤
 AsksFor topics.Import rows Import = ⊤
 AsksFor topics.Threads rows (Threads walkers workers rounds) =

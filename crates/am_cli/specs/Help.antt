@@ -108,21 +108,25 @@ serve_help =
 -- what help says of the command `explore`
 abbrev pub explore_help : List ℕ
 explore_help =
-    codes "Usage: automount_cli explore [--most N] < SCENE\n\n"
+    codes "Usage: automount_cli explore [--most N] [--prefix CHOICES] < SCENE\n\n"
     ++ (codes "Reads a scene, whole: a script, and behind its events threads and questions.\n"
     ++ (codes "Tries all orders in which the threads' events can come, and writes for each\n"
     ++ (codes "question whether some order meets it, with the events of a shortest one.\n\n"
     ++ (codes "  thread NAME .. end     the events of a thread, a line each, in their order\n"
     ++ (codes "  serve daemon [fail N]  the daemon takes part; its acts may fail with error N\n"
     ++ (codes "  sometimes, never       before what is asked: NAME waiting, that this thread\n"
-    ++ (codes "                         waits without end; or NAME N ANSWER, that its event\n"
-    ++ (codes "                         number N is answered so\n\n"
+    ++ (codes "                         waits without end; NAME N ANSWER, that its event\n"
+    ++ (codes "                         number N is answered so; or a LINE, that the world's\n"
+    ++ (codes "                         text has such a line at the end, * is any word\n"
+    ++ (codes "  always LINE            that it has one at each end\n\n"
     ++ (codes "Options:\n"
-    ++ (codes "  --most N    the most states that one search looks at; 1000000 if left out\n"
-    ++ (codes "  -h, --help  write this\n\n"
+    ++ (codes "  --most N          the most states of one search; 1000000 if left out\n"
+    ++ (codes "  --prefix CHOICES  orders alone that begin with these choices, each its number\n"
+    ++ (codes "                    among those that there are, from 1: as 3,1,12\n"
+    ++ (codes "  -h, --help        write this\n\n"
     ++ (codes "Exit status: 0 each came out as asked, by an order or by none; 1 one didn't, or\n"
     ++ (codes "a fault, told on standard error; 3 else, where a search was cut.\n"
-    ++ codes "Example: automount_cli explore --most 5000 < FILE\n")))))))))))))
+    ++ codes "Example: automount_cli explore --most 5000 < FILE\n")))))))))))))))))
 
 -- what help says of the command `judge`
 abbrev pub judge_help : List ℕ
@@ -175,7 +179,7 @@ usage_text =
     ++ (codes "       automount_cli trace [--plain] < FILE\n"
     ++ (codes "       automount_cli draw [--from N] [--to N] < FILE\n"
     ++ (codes "       automount_cli world [--namespace N] < FILE\n"
-    ++ (codes "       automount_cli explore [--most N] < FILE\n"
+    ++ (codes "       automount_cli explore [--most N] [--prefix CHOICES] < FILE\n"
     ++ (codes "       automount_cli threads [--walkers N] [--workers N] [--rounds N]\n"
     ++ codes "       automount_cli help [COMMAND]\n       automount_cli --version\n")))))
 

@@ -1,7 +1,8 @@
 -- How a run of the program ends: own choice (docs/FORMATS.md, "The program").
-use Rattle.std.specs.Prelude.{◌≡◌, ◌⊎◌, ◌∷◌, ℕ, Bool, List, [], Option, codes, decimal, if◌then◌else◌}
+use Rattle.std.specs.Prelude.{◌≡◌, ◌⊎◌, ◌∷◌, ℕ, Bool, List, [], Option, Vec, codes, decimal, if◌then◌else◌}
 use Rattle.std.specs.List.{flat_map}
 use Rattle.std.specs.Io.KnownBytes.{Appends}
+use Rattle.std.specs.declared.alloc.Global.{Global}
 use Rattle.am_findings.specs.{ExploresInput, StopsExploring, ExploreFault}
 use Rattle.am_findings.specs.declared.verdict.Verdict.{Verdict as Findings}
 use Rattle.am_findings.specs.declared.verdict.Verdict.TheVariants.{AsAsked, NotAsAsked, NotAllSeen}
@@ -23,7 +24,7 @@ use Rattle.am_cli.specs.Args.{fault_number}
 use Rattle.am_cli.specs.CommandLine.{IsAsked, IsRefused}
 use Rattle.am_cli.specs.Help.{help_text, version_line}
 use Rattle.am_cli.specs.Hints.{IsHint, usage_told}
-use Rattle.am_cli.specs.Telling.{explore_told, import_told, IsCut, judge_told, script_told, Tells, TellsFault}
+use Rattle.am_cli.specs.Telling.{import_told, IsCut, judge_told, script_told, Tells, TellsExplore, TellsFault}
 use Rattle.am_cli.specs.Telling.{word_told}
 use Rattle.am_cli.specs.declared.hints.Hint.{Hint}
 use Rattle.am_cli.specs.declared.topics.Topic.{Topic}
@@ -63,10 +64,11 @@ pub data End : Type 0 where
   Served : End
   -- it isn't
   ServeStopped : ScriptFault → End
-  -- all orders of the scene are explored, each search over so many states at most, and what was found is written
-  Explored : ℕ → Findings → End
+  -- the orders of the scene that begin with these choices are explored, each search over so many states at most, and
+  -- what was found is written
+  Explored : ℕ → Vec ℕ Global → Findings → End
   -- they aren't, or it isn't written whole
-  ExploreStopped : ℕ → ExploreFault → End
+  ExploreStopped : ℕ → Vec ℕ Global → ExploreFault → End
   -- the trace is judged, and its verdict is written
   Judged : Verdict → End
   -- its verdict isn't written whole
@@ -114,8 +116,8 @@ status_of (Shown only summary) = 0
 status_of (ShowStopped only fault) = 1
 status_of Served = 0
 status_of (ServeStopped fault) = 1
-status_of (Explored most findings) = status_of_findings findings
-status_of (ExploreStopped most fault) = 1
+status_of (Explored most prefix findings) = status_of_findings findings
+status_of (ExploreStopped most prefix fault) = 1
 status_of (Judged verdict) = status_of_verdict verdict
 status_of (JudgeStopped fault) = 1
 status_of Imported = 0
@@ -140,8 +142,8 @@ asked_of (Shown only summary) = World only
 asked_of (ShowStopped only fault) = World only
 asked_of Served = Serve
 asked_of (ServeStopped fault) = Serve
-asked_of (Explored most findings) = Explore most
-asked_of (ExploreStopped most fault) = Explore most
+asked_of (Explored most prefix findings) = Explore most prefix
+asked_of (ExploreStopped most prefix fault) = Explore most prefix
 asked_of (Judged verdict) = Judge
 asked_of (JudgeStopped fault) = Judge
 asked_of Imported = Import
@@ -157,7 +159,7 @@ asked_of NotVersioned = Version
 -- What is read and written, and what is told of it: nothing is told of a script that is played,
 -- traced or drawn to its end, or whose world is printed, nor of a session that is served, a scene that is explored,
 -- a trace that is judged, a mountinfo that is imported, threads whose rounds stand written, or help and a version that
--- do. Else the fault is told; that of a script with what the reader recalls of it.
+-- do. Else the fault is told; that of a script or a scene with what the reader recalls of it.
 -- Threads, help and the version read nothing. Nothing is written where threads don't run.
 abbrev pub Leaves : End → Recalled → Option (List ℕ) → Option (List ℕ) → Option (List ℕ) → Option (List ℕ) → Option (List ℕ) → Option (List ℕ) → Type 0
 Leaves (Played summary) recalled input rest old new quiet told =
@@ -178,10 +180,10 @@ Leaves (ShowStopped only fault) recalled input rest old new quiet told =
 Leaves Served recalled input rest old new quiet told = ServesInput input rest old new × (told ≡ quiet)
 Leaves (ServeStopped fault) recalled input rest old new quiet told =
     StopsServing input rest old new fault × Tells quiet told (script_told fault [])
-Leaves (Explored most findings) recalled input rest old new quiet told =
-    ExploresInput most input rest old new findings × (told ≡ quiet)
-Leaves (ExploreStopped most fault) recalled input rest old new quiet told =
-    StopsExploring most input rest old new fault × Tells quiet told (explore_told fault)
+Leaves (Explored most prefix findings) recalled input rest old new quiet told =
+    ExploresInput most prefix.items input rest old new findings × (told ≡ quiet)
+Leaves (ExploreStopped most prefix fault) recalled input rest old new quiet told =
+    StopsExploring most prefix.items input rest old new fault × TellsExplore recalled fault quiet told
 Leaves (Judged verdict) recalled input rest old new quiet told = JudgesInput input rest old new verdict × (told ≡ quiet)
 Leaves (JudgeStopped fault) recalled input rest old new quiet told =
     StopsJudging input rest old new fault × Tells quiet told (judge_told fault)

@@ -2,7 +2,8 @@
 use Rattle.std.specs.Prelude.{◌<◌, ◌∷◌, ℕ, List, [], codes, decimal, length, take, Option}
 use Rattle.std.specs.List.{flat_map}
 use Rattle.std.specs.Io.KnownBytes.{Appends}
-use Rattle.am_explain.specs.{HelpsWith}
+use Rattle.am_explain.specs.{HelpsWith, SceneHelpsWith}
+use Rattle.am_explore.specs.{Tally}
 use Rattle.am_findings.specs.{ExploreFault}
 use Rattle.am_findings.specs.declared.explore.ExploreFault.TheVariants as unexplored
 use Rattle.am_import.specs.{ImportFault}
@@ -79,15 +80,32 @@ scene_word of_scene.NoSuchEvent = codes "NoSuchEvent"
 scene_word of_scene.BadAnswer = codes "BadAnswer"
 scene_word of_scene.NoMemory = codes "NoMemory"
 
--- what is told of it, at its line
-abbrev pub scene_told : SceneFault → List ℕ
-scene_told fault = line_told fault.line (scene_word fault.kind) []
+-- what is told of it, at its line, with this below it
+abbrev pub scene_told : SceneFault → List ℕ → List ℕ
+scene_told fault below = line_told fault.line (scene_word fault.kind) below
 
--- what is told where a scene isn't explored, or what was found isn't written
-abbrev pub explore_told : ExploreFault → List ℕ
-explore_told (unexplored.Scene fault) = scene_told fault
-explore_told unexplored.NoMemory = word_told (codes "NoMemory")
-explore_told unexplored.WriteFailed = word_told (codes "WriteFailed")
+-- it is told, and below it where its line isn't as expected in the scene of which this is recalled
+abbrev pub TellsScene : Recalled → SceneFault → Option (List ℕ) → Option (List ℕ) → Type 0
+TellsScene recalled fault quiet told =
+    (help : List ℕ) × SceneHelpsWith recalled fault help × Tells quiet told (scene_told fault help)
+
+-- what is told where there is no choice of the number at this place of a prefix
+abbrev pub choice_told : ℕ → List ℕ
+choice_told place = flat_map (λ part. part) (codes "fault: prefix " ∷ decimal place ∷ codes ": NoSuchChoice\n" ∷ [])
+
+-- it is told why a scene isn't explored, of whose text this is recalled, or what was found isn't written
+abbrev pub TellsExplore : Recalled → ExploreFault → Option (List ℕ) → Option (List ℕ) → Type 0
+TellsExplore recalled (unexplored.Scene fault) quiet told = TellsScene recalled fault quiet told
+TellsExplore recalled (unexplored.NoSuchChoice place) quiet told = Tells quiet told (choice_told place)
+TellsExplore recalled unexplored.NoMemory quiet told = Tells quiet told (word_told (codes "NoMemory"))
+TellsExplore recalled unexplored.WriteFailed quiet told = Tells quiet told (word_told (codes "WriteFailed"))
+
+-- how far a search is, as it is told on a terminal
+abbrev pub tally_told : Tally → List ℕ
+tally_told tally =
+    flat_map (λ part. part)
+    (codes "explore: states " ∷ decimal tally.states ∷ codes ", orders " ∷ decimal tally.orders
+    ∷ codes ", ends " ∷ decimal tally.ends ∷ codes "\n" ∷ [])
 
 -- ---- the faults of a trace that is to be judged
 

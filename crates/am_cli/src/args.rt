@@ -2,11 +2,13 @@
 
 ghost use Rattle.std.specs.Prelude.{◌≡◌, ◌≤◌, ℕ, map, IfErr, IfOk, None, Option, Some};
 ghost use Rattle.clap.specs.Words.{first_of, found_of, kind_of, rows_of, subcommand_rows_of};
-ghost use Rattle.am_cli.specs.Args.{fault_number, IsInRange, IsNumberUpTo};
+ghost use Rattle.am_cli.specs.Args.{fault_number, IsInRange, IsNumberUpTo, RefusedFor};
+ghost use Rattle.am_cli.specs.Choices.{prefix_of};
 ghost use Rattle.am_cli.specs.CommandLine.{AnswersBy, Asks, AsksBy, AsksByNone, AsksFor, AsksForNone, AsksNothing, IsAsked, IsNumber, IsNumberIn, IsRefused, IsRefusedBy, flag_of, flagged};
 ghost use Rattle.am_cli.specs.Topics.{topic_named};
 ghost use Rattle.am_cli.specs.declared.topics.Topic.TheVariants as topics;
 
+use crate::choices::read_prefix;
 use crate::commands::command;
 use crate::topics::{Topic, topic_named, topic_of};
 use clap::error::ErrorKind;
@@ -15,7 +17,7 @@ use std::alloc::Global;
 use thiserror::Error;
 
 /// What the program is asked to do.
-#[derive(Clone, Copy, Debug, PartialEq, Eq)]
+#[derive(Drop)]
 pub enum Args {
     /// Plays the script on standard input.
     Script,
@@ -42,6 +44,8 @@ pub enum Args {
     Explore {
         /// How many states one search looks at, at most.
         most: u32,
+        /// The numbers of the choices with which orders begin, from 1.
+        prefix: Vec<u32>,
     },
     /// Judges the trace on standard input.
     Judge,
@@ -188,14 +192,30 @@ fn world(given: &ArgMatches<'_>) -> Result<Args, ArgsFault>
     })
 }
 
-fn explore(given: &ArgMatches<'_>) -> Result<Args, ArgsFault>
+/// The choices that an option names, which may be left out.
+fn choices_in(alloc: Global, given: &ArgMatches<'_>, id: &str) -> Result<Vec<u32>, ArgsFault>
+    ensures read { IfOk result (λ choices.
+        prefix_of (first_of id.now (rows_of (found_of given.now))) ≡ Some choices.items) }
+    ensures refused { IfErr result
+        (RefusedFor (prefix_of (first_of id.now (rows_of (found_of given.now))) ≡ None)) }
+{
+    match given.get_str(id) {
+        Some(word) => read_prefix(alloc, word.as_bytes()),
+        None => Ok(Vec::new(alloc)),
+    }
+}
+
+fn explore(alloc: Global, given: &ArgMatches<'_>) -> Result<Args, ArgsFault>
     ensures range { IfOk result IsInRange }
     ensures asks { IfOk result (AsksFor topics.Explore (rows_of (found_of given.now))) }
-    ensures refused { IfErr result (λ _. AsksForNone topics.Explore (rows_of (found_of given.now))) }
+    ensures refused { IfErr result
+        (RefusedFor (AsksForNone topics.Explore (rows_of (found_of given.now)))) }
 {
-    Ok(Args::Explore {
-        most: number(given, "most", u32::MAX)?,
-    })
+    let most = number(given, "most", u32::MAX)?;
+    match choices_in(alloc, given, "prefix") {
+        Ok(prefix) => Ok(Args::Explore { most, prefix }),
+        Err(fault) => Err(fault),
+    }
 }
 
 fn help(given: &ArgMatches<'_>) -> Result<Args, ArgsFault>
@@ -213,10 +233,10 @@ fn help(given: &ArgMatches<'_>) -> Result<Args, ArgsFault>
 }
 
 /// What a command asks for.
-fn asked(topic: Topic, given: &ArgMatches<'_>) -> Result<Args, ArgsFault>
+fn asked(alloc: Global, topic: Topic, given: &ArgMatches<'_>) -> Result<Args, ArgsFault>
     ensures range { IfOk result IsInRange }
     ensures asks { IfOk result (AsksFor topic (rows_of (found_of given.now))) }
-    ensures refused { IfErr result (λ _. AsksForNone topic (rows_of (found_of given.now))) }
+    ensures refused { IfErr result (RefusedFor (AsksForNone topic (rows_of (found_of given.now)))) }
 {
     match topic {
         Topic::Script => Ok(Args::Script),
@@ -224,7 +244,7 @@ fn asked(topic: Topic, given: &ArgMatches<'_>) -> Result<Args, ArgsFault>
         Topic::Draw => draw(given),
         Topic::World => world(given),
         Topic::Serve => Ok(Args::Serve),
-        Topic::Explore => explore(given),
+        Topic::Explore => explore(alloc, given),
         Topic::Judge => Ok(Args::Judge),
         Topic::Import => Ok(Args::Import),
         Topic::Threads => threads(given),
@@ -233,25 +253,26 @@ fn asked(topic: Topic, given: &ArgMatches<'_>) -> Result<Args, ArgsFault>
 }
 
 /// What the command of this name asks for.
-fn asked_by(name: &str, given: &ArgMatches<'_>) -> Result<Args, ArgsFault>
+fn asked_by(alloc: Global, name: &str, given: &ArgMatches<'_>) -> Result<Args, ArgsFault>
     ensures range { IfOk result IsInRange }
     ensures asks { IfOk result (AsksBy (topic_named name.now) (rows_of (found_of given.now))) }
-    ensures refused { IfErr result (λ _. AsksByNone (topic_named name.now) (rows_of (found_of given.now))) }
+    ensures refused { IfErr result
+        (RefusedFor (AsksByNone (topic_named name.now) (rows_of (found_of given.now)))) }
 {
     match topic_named(name) {
-        Some(topic) => asked(topic, given),
+        Some(topic) => asked(alloc, topic, given),
         None => Err(ArgsFault::Usage),
     }
 }
 
 /// What the command that was named asks for.
-fn asked_in(matches: &ArgMatches<'_>) -> Result<Args, ArgsFault>
+fn asked_in(alloc: Global, matches: &ArgMatches<'_>) -> Result<Args, ArgsFault>
     ensures range { IfOk result IsInRange }
     ensures asks { IfOk result (Asks (subcommand_rows_of matches.now)) }
-    ensures refused { IfErr result (λ _. AsksNothing (subcommand_rows_of matches.now)) }
+    ensures refused { IfErr result (RefusedFor (AsksNothing (subcommand_rows_of matches.now))) }
 {
     match matches.subcommand() {
-        Some((name, given)) => asked_by(name, given),
+        Some((name, given)) => asked_by(alloc, name, given),
         None => Err(ArgsFault::Usage),
     }
 }
@@ -282,7 +303,7 @@ pub fn read_args(alloc: Global, words: &[&str]) -> Result<Args, ArgsFault>
         return Err(ArgsFault::NoMemory);
     };
     match command.try_get_matches_from(words) {
-        Ok(matches) => asked_in(&matches),
+        Ok(matches) => asked_in(alloc, &matches),
         Err(error) => answered(&error, words),
     }
 }

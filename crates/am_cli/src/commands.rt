@@ -2,7 +2,7 @@
 
 ghost use Rattle.std.specs.Prelude.{◌≡◌, false, IfOk};
 ghost use Rattle.clap.specs.Words.{rule_of};
-ghost use Rattle.am_cli.specs.CommandLine.{number_rule, default_rule, flag_rule, trace_app, draw_app, world_app, explore_app, threads_app, help_app, bare_program, cli, IsCommand};
+ghost use Rattle.am_cli.specs.CommandLine.{number_rule, default_rule, word_rule, flag_rule, trace_app, draw_app, world_app, explore_app, threads_app, help_app, bare_program, cli, IsCommand};
 
 use crate::help::version;
 use clap::{Arg, ArgAction, Command, value_parser};
@@ -25,6 +25,14 @@ fn option_or<'a>(alloc: Global, name: &'a str, default: &'a str) -> Arg<'a>
     ensures local { result.global ≡ false }
 {
     option(alloc, name).default_value(default)
+}
+
+/// An option that is a word.
+fn word<'a>(alloc: Global, name: &'a str) -> Arg<'a>
+    ensures rule { rule_of result ≡ word_rule name.entry.now }
+    ensures local { result.global ≡ false }
+{
+    Arg::new(alloc, name).long(name).action(ArgAction::Set)
 }
 
 /// An option that has no value.
@@ -58,7 +66,9 @@ fn world_command<'a>(alloc: Global) -> Result<Command<'a>, AllocError>
 fn explore_command<'a>(alloc: Global) -> Result<Command<'a>, AllocError>
     ensures { IfOk result (IsCommand explore_app) }
 {
-    Command::new(alloc, "explore").arg(option_or(alloc, "most", "1000000"))
+    Command::new(alloc, "explore")
+        .arg(option_or(alloc, "most", "1000000"))?
+        .arg(word(alloc, "prefix"))
 }
 
 fn threads_command<'a>(alloc: Global) -> Result<Command<'a>, AllocError>

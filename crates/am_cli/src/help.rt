@@ -147,7 +147,7 @@ Example: echo '!reset' | automount_cli serve
 fn explore_help() -> &'static [u8]
     ensures { result.now ≡ explore_help }
 {
-    b"Usage: automount_cli explore [--most N] < SCENE
+    b"Usage: automount_cli explore [--most N] [--prefix CHOICES] < SCENE
 
 Reads a scene, whole: a script, and behind its events threads and questions.
 Tries all orders in which the threads' events can come, and writes for each
@@ -156,12 +156,16 @@ question whether some order meets it, with the events of a shortest one.
   thread NAME .. end     the events of a thread, a line each, in their order
   serve daemon [fail N]  the daemon takes part; its acts may fail with error N
   sometimes, never       before what is asked: NAME waiting, that this thread
-                         waits without end; or NAME N ANSWER, that its event
-                         number N is answered so
+                         waits without end; NAME N ANSWER, that its event
+                         number N is answered so; or a LINE, that the world's
+                         text has such a line at the end, * is any word
+  always LINE            that it has one at each end
 
 Options:
-  --most N    the most states that one search looks at; 1000000 if left out
-  -h, --help  write this
+  --most N          the most states of one search; 1000000 if left out
+  --prefix CHOICES  orders alone that begin with these choices, each its number
+                    among those that there are, from 1: as 3,1,12
+  -h, --help        write this
 
 Exit status: 0 each came out as asked, by an order or by none; 1 one didn't, or
 a fault, told on standard error; 3 else, where a search was cut.
@@ -265,7 +269,7 @@ pub(crate) fn usage() -> &'static [u8]
        automount_cli trace [--plain] < FILE
        automount_cli draw [--from N] [--to N] < FILE
        automount_cli world [--namespace N] < FILE
-       automount_cli explore [--most N] < FILE
+       automount_cli explore [--most N] [--prefix CHOICES] < FILE
        automount_cli threads [--walkers N] [--workers N] [--rounds N]
        automount_cli help [COMMAND]
        automount_cli --version

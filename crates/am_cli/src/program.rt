@@ -18,6 +18,7 @@ use crate::telling::{
 };
 use crate::topics::Topic;
 use am_draw::draw_script;
+use am_explore::Watch;
 use am_findings::{Verdict as Findings, explore_scene};
 use am_import::import;
 use am_mountinfo::world_script;
@@ -37,34 +38,36 @@ use std::thread::Threads;
 
 /// Runs the program and answers its exit status: 0 done, 1 a fault, a trace that breaks a law, or a question that comes
 /// out otherwise than asked, 2 a bad command line, 3 where none does, and a search was cut. A fault is told on the last
-/// stream, as far as that takes it; the status tells it too. Below the fault of a script stands what the reader recalls
-/// of it.
-pub fn run_program<T: Threads + Wait + Sync, R: Read, W: Write, E: Write>(
+/// stream, as far as that takes it; the status tells it too. Below the fault of a script or a scene stands what the
+/// reader recalls of it. Who watches is told how far a search of `explore` is.
+pub fn run_program<T: Threads + Wait + Sync, R: Read, W: Write, E: Write, P: Watch>(
     rt: &T,
     alloc: Global,
     words: &[&str],
     reader: &mut Recalling<R>,
     writer: &mut W,
     errors: &mut E,
+    watch: &mut P,
 ) -> u8
     ensures { ExitsWith (map (λ word. word.now) words.now) reader.new.recalled (R.remaining reader.old.reader)
         (R.remaining reader.new.reader) (W.contents writer.old) (W.contents writer.new)
         (E.contents errors.old) (E.contents errors.new) result }
 {
     match read_args(alloc, words) {
-        Ok(args) => run_asked(rt, alloc, args, reader, writer, errors),
+        Ok(args) => run_asked(rt, alloc, args, reader, writer, errors, watch),
         Err(fault) => refuse(alloc, words, fault, errors),
     }
 }
 
 /// Does what is asked for.
-fn run_asked<T: Threads + Wait + Sync, R: Read, W: Write, E: Write>(
+fn run_asked<T: Threads + Wait + Sync, R: Read, W: Write, E: Write, P: Watch>(
     rt: &T,
     alloc: Global,
     args: Args,
     reader: &mut Recalling<R>,
     writer: &mut W,
     errors: &mut E,
+    watch: &mut P,
 ) -> u8
     requires { IsInRange args }
     ensures { Exits args reader.new.recalled
@@ -77,8 +80,8 @@ fn run_asked<T: Threads + Wait + Sync, R: Read, W: Write, E: Write>(
         Args::Trace { plain } => trace(alloc, plain, reader, writer, errors),
         Args::Draw { first, last } => draw(alloc, first, last, reader, writer, errors),
         Args::Serve => serve_lines(alloc, &mut reader.reader, writer, errors),
-        Args::Explore { most } => {
-            explore_orders(alloc, most, &mut reader.reader, writer, errors)
+        Args::Explore { most, prefix } => {
+            explore_orders(alloc, most, &prefix, reader, writer, errors, watch)
         }
         Args::Judge => judge(alloc, &mut reader.reader, writer, errors),
         Args::Import => import_mounts(alloc, &mut reader.reader, writer, errors),
@@ -268,23 +271,27 @@ fn status_of_findings(findings: Findings) -> u8
     }
 }
 
-/// Explores all orders of the scene that the reader gives; each search looks at so many states at most.
-fn explore_orders<R: Read, W: Write, E: Write>(
+/// Explores the orders of the scene that the reader gives which begin with these choices; each search looks at so many
+/// states at most.
+fn explore_orders<R: Read, W: Write, E: Write, P: Watch>(
     alloc: Global,
     most: u32,
-    reader: &mut R,
+    prefix: &Vec<u32>,
+    reader: &mut Recalling<R>,
     writer: &mut W,
     errors: &mut E,
+    watch: &mut P,
 ) -> u8
-    ensures { (recalled : Recalled) → Exits (asks.Explore most) recalled (R.remaining reader.old)
-        (R.remaining reader.new)
+    ensures { Exits (asks.Explore most prefix.now) reader.new.recalled
+        (R.remaining reader.old.reader) (R.remaining reader.new.reader)
         (W.contents writer.old) (W.contents writer.new) (E.contents errors.old)
         (E.contents errors.new) result }
 {
-    match explore_scene(alloc, u64::from(most), reader, writer) {
+    let most = u64::from(most);
+    match explore_scene(alloc, most, prefix.as_slice(), reader, writer, watch) {
         Ok(findings) => status_of_findings(findings),
         Err(fault) => {
-            tell_explore(errors, fault);
+            tell_explore(alloc, &reader.recalled, fault, errors);
             1
         }
     }
@@ -402,20 +409,21 @@ fn refuse<E: Write>(alloc: Global, words: &[&str], fault: ArgsFault, errors: &mu
 }
 
 /// Runs the program with the words of its process.
-pub fn run_words<T: Threads + Wait + Sync, R: Read, W: Write, E: Write>(
+pub fn run_words<T: Threads + Wait + Sync, R: Read, W: Write, E: Write, P: Watch>(
     rt: &T,
     alloc: Global,
     words: io::Result<env::Args>,
     reader: &mut Recalling<R>,
     writer: &mut W,
     errors: &mut E,
+    watch: &mut P,
 ) -> u8
     ensures { (words : List Text) × ExitsWith words reader.new.recalled (R.remaining reader.old.reader)
         (R.remaining reader.new.reader) (W.contents writer.old) (W.contents writer.new)
         (E.contents errors.old) (E.contents errors.new) result }
 {
     match read_words(alloc, words) {
-        Ok(words) => run_lent(rt, alloc, &words, reader, writer, errors),
+        Ok(words) => run_lent(rt, alloc, &words, reader, writer, errors, watch),
         Err(fault) => refuse(alloc, &[], fault, errors),
     }
 }
@@ -442,20 +450,21 @@ fn words_fault(error: &io::Error) -> ArgsFault {
     ArgsFault::Usage
 }
 
-fn run_lent<T: Threads + Wait + Sync, R: Read, W: Write, E: Write>(
+fn run_lent<T: Threads + Wait + Sync, R: Read, W: Write, E: Write, P: Watch>(
     rt: &T,
     alloc: Global,
     words: &[String],
     reader: &mut Recalling<R>,
     writer: &mut W,
     errors: &mut E,
+    watch: &mut P,
 ) -> u8
     ensures { ExitsWith (map (λ word. string_bytes word) words.now) reader.new.recalled (R.remaining reader.old.reader)
         (R.remaining reader.new.reader) (W.contents writer.old) (W.contents writer.new)
         (E.contents errors.old) (E.contents errors.new) result }
 {
     match lend(alloc, words) {
-        Ok(words) => run_program(rt, alloc, words.as_slice(), reader, writer, errors),
+        Ok(words) => run_program(rt, alloc, words.as_slice(), reader, writer, errors, watch),
         Err(_) => refuse(alloc, &[], ArgsFault::NoMemory, errors),
     }
 }

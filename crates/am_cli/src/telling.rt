@@ -4,11 +4,12 @@ ghost use Rattle.std.specs.Prelude.{◌≡◌, true, false};
 ghost use Rattle.std.specs.List.{flat_map};
 ghost use Rattle.std.specs.Io.KnownBytes.{Appends};
 ghost use Rattle.am_cli.specs.Hints.{hint_told, usage_told};
-ghost use Rattle.am_cli.specs.Telling.{explore_told, import_told, IsCut, judge_told, line_told, mount_words, place_told, scene_told, scene_word, script_told, Tells, TellsFault, trace_words, word_told};
+ghost use Rattle.am_cli.specs.Telling.{choice_told, import_told, IsCut, judge_told, line_told, mount_words, place_told, scene_told, scene_word, script_told, tally_told, Tells, TellsExplore, TellsFault, TellsScene, trace_words, word_told};
 
 use crate::help::usage;
 use crate::hints::Hint;
-use am_explain::help;
+use am_explain::{help, scene_help};
+use am_explore::Tally;
 use am_findings::ExploreFault;
 use am_import::ImportFault;
 use am_mount_lines::Expected as MountExpected;
@@ -180,19 +181,70 @@ fn scene_word(kind: SceneFaultKind) -> &'static str
     }
 }
 
-/// Tells why a text is no scene.
-fn tell_scene<E: Write>(errors: &mut E, fault: SceneFault)
-    ensures { Tells (E.contents errors.old) (E.contents errors.new) (scene_told fault) }
+/// Tells why a text is no scene, and this below it.
+fn tell_scene_line<E: Write>(errors: &mut E, fault: SceneFault, below: &[u8])
+    ensures { Tells (E.contents errors.old) (E.contents errors.new) (scene_told fault below.now) }
 {
-    tell_line(errors, fault.line, scene_word(fault.kind), b"");
+    tell_line(errors, fault.line, scene_word(fault.kind), below);
 }
 
-/// Tells why a scene isn't explored, or what was found isn't written.
-pub(crate) fn tell_explore<E: Write>(errors: &mut E, fault: ExploreFault)
-    ensures { Tells (E.contents errors.old) (E.contents errors.new) (explore_told fault) }
+/// Tells why a text is no scene, of which this is recalled: below the fault stands where its line isn't
+/// as expected, if that is known.
+fn tell_scene<E: Write>(alloc: Global, recalled: &Recalled, fault: SceneFault, errors: &mut E)
+    ensures { TellsScene recalled.now fault (E.contents errors.old) (E.contents errors.new) }
+{
+    let below = scene_help(alloc, recalled, fault);
+    tell_scene_line(errors, fault, &below);
+}
+
+/// Tells that there is no choice of the number at this place of a prefix.
+fn tell_choice<E: Write>(errors: &mut E, place: usize)
+    ensures { Tells (E.contents errors.old) (E.contents errors.new) (choice_told place) }
+{
+    let mut digits = Buffer::new();
+    tell(
+        errors,
+        &[
+            b"fault: prefix ",
+            digits.format(place).as_bytes(),
+            b": NoSuchChoice\n",
+        ],
+    );
+}
+
+/// Tells how far a search is.
+pub(crate) fn tell_tally<E: Write>(errors: &mut E, tally: &Tally)
+    ensures { Tells (E.contents errors.old) (E.contents errors.new) (tally_told tally.now) }
+{
+    let mut states = Buffer::new();
+    let mut orders = Buffer::new();
+    let mut ends = Buffer::new();
+    tell(
+        errors,
+        &[
+            b"explore: states ",
+            states.format(tally.states).as_bytes(),
+            b", orders ",
+            orders.format(tally.orders).as_bytes(),
+            b", ends ",
+            ends.format(tally.ends).as_bytes(),
+            b"\n",
+        ],
+    );
+}
+
+/// Tells why a scene isn't explored, of whose text this is recalled, or what was found isn't written.
+pub(crate) fn tell_explore<E: Write>(
+    alloc: Global,
+    recalled: &Recalled,
+    fault: ExploreFault,
+    errors: &mut E,
+)
+    ensures { TellsExplore recalled.now fault (E.contents errors.old) (E.contents errors.new) }
 {
     match fault {
-        ExploreFault::Scene { fault } => tell_scene(errors, fault),
+        ExploreFault::Scene { fault } => tell_scene(alloc, recalled, fault, errors),
+        ExploreFault::NoSuchChoice { place } => tell_choice(errors, place),
         ExploreFault::NoMemory => tell_word(errors, "NoMemory"),
         ExploreFault::WriteFailed => tell_word(errors, "WriteFailed"),
     }

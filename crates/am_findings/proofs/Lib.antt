@@ -1,3 +1,4 @@
 pub mod FindLemmas
 pub mod ReadLemmas
 pub mod TextLemmas
+pub mod WholeLemmas

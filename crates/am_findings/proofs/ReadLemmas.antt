@@ -74,22 +74,27 @@ pub reads_scene : (input rest : Option (List ℕ)) (text : List ℕ) (broke : Op
 reads_scene input rest text None told read end scene = record { text = text; read = read; ended = end; scene = scene }
 reads_scene input rest text (Some kind) told read end scene = absurd (broken_scene kind text told scene)
 
-pub explores : (most : ℕ) (input rest old new : Option (List ℕ)) (told : Told) (r : Result Verdict ExploreFault)
-    → Reads input rest told → IfOk r (IsWritten told most old new) → IfOk r (ExploresInput most input rest old new)
-explores most input rest old new told (Ok verdict) reads is = record { told = told; reads = reads; written = is }
-explores most input rest old new told (Err fault) reads is = tt
+pub explores : (most : ℕ) (prefix : List ℕ) (input rest old new : Option (List ℕ)) (told : Told) (r : Result Verdict ExploreFault)
+    → Reads input rest told → IfOk r (IsWritten told prefix most old new) → IfOk r (ExploresInput most prefix input rest old new)
+explores most prefix input rest old new told (Ok verdict) reads is = record { told = told; reads = reads; written = is }
+explores most prefix input rest old new told (Err fault) reads is = tt
 
-untold : (most : ℕ) (input rest old new : Option (List ℕ)) (told : Told) (fault : ExploreFault) → Reads input rest told
-    → IsNotWritten told most old new fault → StopsExploring most input rest old new fault
-untold most input rest old new told (faults.Scene fault) reads is = absurd is
-untold most input rest old new told faults.NoMemory reads is = record { told = told; reads = reads; unwritten = is }
-untold most input rest old new told faults.WriteFailed reads is = record { told = told; reads = reads; unwritten = is }
+untold : (most : ℕ) (prefix : List ℕ) (input rest old new : Option (List ℕ)) (told : Told) (fault : ExploreFault) → Reads input rest told
+    → IsNotWritten told prefix most old new fault → StopsExploring most prefix input rest old new fault
+untold most prefix input rest old new told (faults.Scene fault) reads is = absurd is
+untold most prefix input rest old new told (faults.NoSuchChoice place) reads is = record {
+  told = told;
+  reads = reads;
+  unwritten = is;
+}
+untold most prefix input rest old new told faults.NoMemory reads is = record { told = told; reads = reads; unwritten = is }
+untold most prefix input rest old new told faults.WriteFailed reads is = record { told = told; reads = reads; unwritten = is }
 
-pub stops : (most : ℕ) (input rest old new : Option (List ℕ)) (told : Told) (r : Result Verdict ExploreFault)
-    → Reads input rest told → IfErr r (IsNotWritten told most old new)
-    → IfErr r (StopsExploring most input rest old new)
-stops most input rest old new told (Ok verdict) reads is = tt
-stops most input rest old new told (Err fault) reads is = untold most input rest old new told fault reads is
+pub stops : (most : ℕ) (prefix : List ℕ) (input rest old new : Option (List ℕ)) (told : Told) (r : Result Verdict ExploreFault)
+    → Reads input rest told → IfErr r (IsNotWritten told prefix most old new)
+    → IfErr r (StopsExploring most prefix input rest old new)
+stops most prefix input rest old new told (Ok verdict) reads is = tt
+stops most prefix input rest old new told (Err fault) reads is = untold most prefix input rest old new told fault reads is
 
 pub no_scene : (input rest old : Option (List ℕ)) (text : List ℕ) (broke : Option ScriptFaultKind) (fault : SceneFault)
     → Consumes input rest text → IfNone broke (IsAtEnd rest) → IfSome broke IsReadFault

@@ -13,7 +13,7 @@ verdict_on claims.Sometimes (founds.Order choices answers) = AsAsked
 verdict_on claims.Sometimes founds.Never = NotAsAsked
 verdict_on claims.Never (founds.Order choices answers) = NotAsAsked
 verdict_on claims.Never founds.Never = AsAsked
-verdict_on claim founds.Cut = NotAllSeen
+verdict_on claim (founds.Cut below) = NotAllSeen
 
 -- of two questions: what isn't as asked goes before what wasn't all seen, and that before what is as asked
 abbrev pub joined : Verdict → Verdict → Verdict

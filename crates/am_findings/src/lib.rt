@@ -4,6 +4,7 @@
 
 pub mod explore;
 mod finding;
+pub mod law;
 pub mod verdict;
 
 pub use explore::{ExploreFault, explore_scene};

@@ -40,7 +40,7 @@ fn sometimes(found: &Found) -> Verdict
     match found {
         Found::Order { .. } => Verdict::AsAsked,
         Found::Never => Verdict::NotAsAsked,
-        Found::Cut => Verdict::NotAllSeen,
+        Found::Cut { .. } => Verdict::NotAllSeen,
     }
 }
 
@@ -51,7 +51,7 @@ fn never(found: &Found) -> Verdict
     match found {
         Found::Order { .. } => Verdict::NotAsAsked,
         Found::Never => Verdict::AsAsked,
-        Found::Cut => Verdict::NotAllSeen,
+        Found::Cut { .. } => Verdict::NotAllSeen,
     }
 }
 

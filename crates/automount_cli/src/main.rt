@@ -1,12 +1,13 @@
 //! The program: plays a script from standard input, or runs threads.
 #![tactic(auto)]
 
-use am_cli::run_words;
+use am_cli::{Reporter, run_words};
 use am_recall::Recalling;
 use std::process::ExitCode;
 
 fn main(rt: HostRuntime) -> ExitCode {
     let mut reader = Recalling::new(rt.alloc(), rt.stdin());
+    let mut reporter = Reporter::new(&rt, rt.stderr());
     let status = run_words(
         &rt,
         rt.alloc(),
@@ -14,6 +15,7 @@ fn main(rt: HostRuntime) -> ExitCode {
         &mut reader,
         &mut rt.stdout(),
         &mut rt.stderr(),
+        &mut reporter,
     );
     ExitCode::from(status)
 }

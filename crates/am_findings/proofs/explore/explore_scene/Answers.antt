@@ -9,7 +9,7 @@ returns-in-Ok-clause-ok g c =
     let rest = reads c.read_all-input.new.reader in
     let told = reads_scene input rest c.read_all-input.result.text.items c.read_all-input.result.broke c.in-Ok.told
     c.read_all-input.ensures.read c.read_all-input.ensures.end c.in-Ok.ensures.ok in
-    explores c.args.most input rest (contents c.args.writer.now) (contents c.tell.new.writer) c.in-Ok.told c.tell.result
+    explores c.args.most c.args.prefix.now input rest (contents c.args.writer.now) (contents c.tell.new.writer) c.in-Ok.told c.tell.result
     told c.tell.ensures.ok
 
 pub returns-in-Ok-clause-err : goal.returns-in-Ok-clause-err
@@ -20,7 +20,7 @@ returns-in-Ok-clause-err g c =
     let rest = reads c.read_all-input.new.reader in
     let told = reads_scene input rest c.read_all-input.result.text.items c.read_all-input.result.broke c.in-Ok.told
     c.read_all-input.ensures.read c.read_all-input.ensures.end c.in-Ok.ensures.ok in
-    stops c.args.most input rest (contents c.args.writer.now) (contents c.tell.new.writer) c.in-Ok.told c.tell.result
+    stops c.args.most c.args.prefix.now input rest (contents c.args.writer.now) (contents c.tell.new.writer) c.in-Ok.told c.tell.result
     told c.tell.ensures.err
 
 pub returns-clause-err : goal.returns-clause-err
