@@ -14,7 +14,7 @@ use crate::choice::{Choice, Who};
 use crate::question::{Question, has_answered, is_waiting};
 use crate::scene::{Scene, Service, Thread};
 use crate::standing::{Progress, are_same_standings, first_standings, moved, standings_again};
-use crate::world_line::text_has;
+use crate::world_line::{lacks, shows};
 use am_job::Job;
 use am_machine::{Answer, Event};
 use am_names::{FailNo, JobId, Token};
@@ -276,8 +276,8 @@ impl Begun {
             Question::Waiting { thread } => {
                 Ok(is_waiting(scene.threads.as_slice(), standings, *thread))
             }
-            Question::Shows { line } => text_has(alloc, &self.world, line.as_slice()),
-            Question::Lacks { line } => Ok(!text_has(alloc, &self.world, line.as_slice())?),
+            Question::Shows { line } => shows(alloc, &self.world, line.as_slice()),
+            Question::Lacks { line } => lacks(alloc, &self.world, line.as_slice()),
         }
     }
 }

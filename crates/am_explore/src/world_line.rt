@@ -1,6 +1,6 @@
 //! Lines of the world's text.
 
-ghost use Rattle.std.specs.Prelude.{◌≡◌, ◌∷◌, None, option_copied, IfOk};
+ghost use Rattle.std.specs.Prelude.{◌≡◌, ◌↔◌, ◌∷◌, IsTrue, None, true, false, option_copied, IfOk};
 ghost use Rattle.am_lines.specs.{words_of};
 ghost use Rattle.am_script.specs.{lines_in, lines_of};
 ghost use Rattle.am_world.specs.Capacity.{state_of};
@@ -71,11 +71,29 @@ fn text_of(alloc: Global, world: &World) -> Result<Vec<u8>, AllocError>
     }
 }
 
-/// Whether a line of the world's text, as `write_world` writes it of all namespaces, has the words of the one that is
-/// sought, of which `*` is any word.
-pub(crate) fn text_has(alloc: Global, world: &World, sought: &[u8]) -> Result<bool, AllocError>
+/// Whether a line of the world's text has the words of the one that is sought.
+fn text_has(alloc: Global, world: &World, sought: &[u8]) -> Result<bool, AllocError>
     ensures { IfOk result (TextHas sought.now (state_of world.now)) }
 {
     let text = text_of(alloc, world)?;
     Ok(has_line(sought, text.as_slice()))
+}
+
+/// Whether a line of the world's text, as `write_world` writes it of all namespaces, has the words of the one that is
+/// sought, of which `*` is any word.
+pub(crate) fn shows(alloc: Global, world: &World, sought: &[u8]) -> Result<bool, AllocError>
+    ensures { IfOk result
+        (λ met. IsTrue met ↔ TextHas sought.now (state_of world.now) true) }
+{
+    let has = text_has(alloc, world, sought)?;
+    Ok(has)
+}
+
+/// Whether no line of it has.
+pub(crate) fn lacks(alloc: Global, world: &World, sought: &[u8]) -> Result<bool, AllocError>
+    ensures { IfOk result
+        (λ met. IsTrue met ↔ TextHas sought.now (state_of world.now) false) }
+{
+    let has = text_has(alloc, world, sought)?;
+    Ok(!has)
 }
