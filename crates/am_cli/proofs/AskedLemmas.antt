@@ -24,10 +24,6 @@ pub refused_so : (why : Type 0) (fault : ArgsFault) → why → RefusedFor why f
 refused_so why NoMemory p = tt
 refused_so why Usage p = p
 
-pub refused_for : {T : Type 0} (why : Type 0) (r : Result T ArgsFault) → IfErr r (λ _. why) → IfErr r (RefusedFor why)
-refused_for why (Ok value) p = tt
-refused_for why (Err fault) p = refused_so why fault p
-
 pub in_any_fault : {T : Type 0} (why : Type 0) (r : Result T ArgsFault) → why → IfErr r (RefusedFor why)
 in_any_fault why (Ok value) p = tt
 in_any_fault why (Err fault) p = refused_so why fault p
