@@ -1,6 +1,6 @@
 -- Where choices lead that are named by their numbers.
-use Rattle.std.proofs.Common.{◌≡◌, ◌<◌, ◌+◌, ℕ, zero, suc, List, [], ◌∷◌, ◌++◌, length, get_or, take, slice_get, Option}
-use Rattle.std.proofs.Common.{Some, None, refl, sym, ap, subst, ◌∙◌, inl, inr, arith}
+use Rattle.std.proofs.Common.{◌≡◌, ◌<◌, ◌+◌, ℕ, zero, suc, List, [], ◌∷◌, ◌++◌, length, get_or, take, slice_get}
+use Rattle.std.proofs.Common.{Some, refl, sym, ap, subst, ◌∙◌, inl, inr, arith}
 use Rattle.std.proofs.lemmas.List.{take_more}
 use Rattle.std.proofs.lemmas.Option.{same_Some}
 use Rattle.am_machine.specs.{Answer}
@@ -8,7 +8,7 @@ use Rattle.am_explore.specs.declared.choice.Choice.{Choice}
 use Rattle.am_explore.specs.declared.scene.Scene.{Scene}
 use Rattle.am_explore.specs.Leads.{AreTaken, IsTaken, NoneTaken, numbered}
 use Rattle.am_explore.specs.Levels.{IsNoStep}
-use Rattle.am_explore.specs.Orders.{IsIn, IsMade, IsOrder, IsStep, Stand, choices_at}
+use Rattle.am_explore.specs.Orders.{IsIn, IsMade, IsOrder, Stand, choices_at}
 use Rattle.am_explore.proofs.OrderLemmas.{same_made}
 
 -- ---- a choice and its number

@@ -1,8 +1,6 @@
 -- The text of a world is one, whatever was observed.
 use Rattle.std.proofs.Common.{◌≡◌, ℕ, Bool, true, false, not, List, ◌++◌, refl, sym, ap, subst, ◌∙◌}
 use Rattle.std.specs.Prelude.{IsTrue, ◌↔◌, None}
-use Rattle.std.specs.List.{Contains}
-use Rattle.std.proofs.lemmas.Bool.{false≢true}
 use Rattle.am_names.specs.{MountRow, is_among}
 use Rattle.am_machine.specs.State.{State}
 use Rattle.am_propagate.proofs.RemovalLemmas.{among_contains, among_from}

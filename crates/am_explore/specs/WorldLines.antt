@@ -1,5 +1,5 @@
 -- Lines of the world's text, as a scene seeks them: own choice (docs/DECISIONS.md, "All orders of a scene").
-use Rattle.std.specs.Prelude.{◌≡◌, ℕ, Bool, true, false, IsTrue, ◌&&◌, ◌||◌, List, [], ◌∷◌, None, bytes_eq, codes}
+use Rattle.std.specs.Prelude.{◌≡◌, ℕ, Bool, true, false, ◌&&◌, ◌||◌, List, [], ◌∷◌, None, bytes_eq, codes}
 use Rattle.std.specs.List.{list_any}
 use Rattle.am_lines.specs.{words_of}
 use Rattle.am_machine.specs.State.{State}

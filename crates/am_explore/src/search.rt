@@ -201,7 +201,8 @@ fn turn<P: Watch>(
             Looked::Cut => return Ok(Some(cut_at(node))),
             Looked::GoesOn => {}
             Looked::End => {
-                if node.begun.meets(alloc, scene, question)? {
+                let met = node.begun.meets(alloc, scene, question)?;
+                if met {
                     return Ok(Some(order_to(alloc, node)?));
                 }
             }
@@ -264,8 +265,14 @@ impl Search {
             (λ found. IsTallied self.new.ahead.most found self.new.ahead.tally) }
     {
         loop {
-            let came = turn(alloc, scene, question, &self.level, &mut self.ahead, watch)?;
-            if let Some(found) = came {
+            if let Some(found) = turn(
+                alloc,
+                scene,
+                question,
+                &self.level,
+                &mut self.ahead,
+                watch,
+            )? {
                 return Ok(found);
             }
             if self.ahead.next.nodes.is_empty() {

@@ -1,5 +1,4 @@
-use Rattle.std.proofs.Common.{◌≡◌, true, false, List, refl, sym, subst, ◌∙◌}
-use Rattle.am_state.specs.{Obs}
+use Rattle.std.proofs.Common.{refl, sym, subst, ◌∙◌}
 use Rattle.am_machine.specs.{Comes, outcome_of}
 use Rattle.am_machine.specs.State.{State}
 use Rattle.am_world.specs.Capacity.{state_of}

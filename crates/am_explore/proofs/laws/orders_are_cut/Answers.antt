@@ -1,6 +1,3 @@
-use Rattle.std.proofs.Common.{ℕ, List, [], ◌∷◌, ◌++◌, refl, sym, subst, arith}
-use Rattle.am_machine.specs.{Answer}
-use Rattle.am_explore.specs.{Choice, IsOrder, Scene, Stand}
 use Rattle.am_explore.proofs.OrderLemmas.{order_cut, orders_joined}
 use Rattle.am_explore.proofs.laws.orders_are_cut.Goals as goal
 

@@ -1,4 +1,4 @@
-use Rattle.std.proofs.Common.{◌≡◌, ◌≤◌, ◌+◌, length, subst, ℕ}
+use Rattle.std.proofs.Common.{◌≤◌, ◌+◌, subst, ℕ}
 use Rattle.am_explore.proofs.OrderLemmas.{first_by_parts}
 use Rattle.am_explore.proofs.laws.parts_tell_first.Goals as goal
 

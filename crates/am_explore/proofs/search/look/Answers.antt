@@ -3,7 +3,7 @@ use Rattle.std.proofs.lemmas.Bool.{false≢true}
 use Rattle.std.proofs.lemmas.List.{take_all}
 use Rattle.am_explore.specs.declared.choice.Choice.{Choice}
 use Rattle.am_explore.specs.Levels.{AllOf, IsNoStep, LeadsTo, node_stand}
-use Rattle.am_explore.specs.Orders.{IsIn, choices_at}
+use Rattle.am_explore.specs.Orders.{IsIn}
 use Rattle.am_explore.proofs.LevelLemmas.{counts_then, grows_then}
 use Rattle.am_explore.proofs.ListLemmas.{AllOf_in, AllOf_more, AllOf_weaker, IsIn_at}
 use Rattle.am_explore.proofs.search.look.Goals as goal

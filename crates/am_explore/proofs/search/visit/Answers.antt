@@ -1,4 +1,4 @@
-use Rattle.std.proofs.Common.{◌≡◌, [], ◌∷◌, ◌++◌, List, Vec, Global, refl, sym, ap, subst, ◌∙◌}
+use Rattle.std.proofs.Common.{[], ◌∷◌, ◌++◌, Vec, Global, sym, ap, subst, ◌∙◌}
 use Rattle.am_explore.specs.declared.begun.Begun.{Begun}
 use Rattle.am_explore.specs.declared.level.Node.{Node}
 use Rattle.am_explore.specs.Levels.{HasLike, node_stand}

@@ -1,4 +1,4 @@
-use Rattle.std.proofs.Common.{◌≡◌, List, Some, sym, ap, subst, ◌∙◌}
+use Rattle.std.proofs.Common.{◌≡◌, List, sym, ap, subst, ◌∙◌}
 use Rattle.am_explore.specs.declared.begun.Begun.{Begun}
 use Rattle.am_explore.specs.declared.choice.Choice.{Choice}
 use Rattle.am_explore.specs.Leads.{numbered}

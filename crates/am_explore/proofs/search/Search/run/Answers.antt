@@ -1,4 +1,4 @@
-use Rattle.std.proofs.Common.{◌≡◌, ℕ, [], List, subst, sym, arith}
+use Rattle.std.proofs.Common.{◌≡◌, [], List, subst, arith}
 use Rattle.std.specs.Prelude.{vec_len}
 use Rattle.std.proofs.lemmas.Bool.Decides.{nat_tests}
 use Rattle.std.proofs.lemmas.List.{nil_from_length}
@@ -8,7 +8,7 @@ use Rattle.am_explore.proofs.LevelLemmas.{none_found}
 use Rattle.am_explore.proofs.search.Search.run.Goals as goal
 
 pub returns-then-is_empty-clause-found : goal.returns-then-is_empty-clause-found
-returns-then-is_empty-clause-found c = λ start l.
+returns-then-is_empty-clause-found g c = λ start l.
     let scene = c.args.scene.now in
     let question = c.args.question.now in
     let next = c.turn.new.ahead.next.nodes in
