@@ -32,7 +32,7 @@ DEATH = ["die", "admincat 2", "reattach 2"]
 
 #: The scenes of the farm, and how one run and parts of them are bounded.
 FARM = {
-    "three_keys": (1_000_000, ()), "death": (1_000_000, ()),
+    "seven_keys": (1_000_000, ()), "three_keys": (1_000_000, ()), "death": (1_000_000, ()),
     "million": (100_000, ("--alike", "--most", "25000", "--split", "4", "--parts", "5")),
 }
 
@@ -42,7 +42,8 @@ def walker(number, namespace, key="home"):
 
 
 SEVEN, EIGHT, NINE = walker(7, 0), walker(8, 1), walker(9, 0)
-#: What leads to each scene, its threads, how acts may fail, and how many orders there are, if that is known.
+#: What leads to each scene, its threads, how acts may fail (None: the daemon doesn't serve), and how many orders there
+#: are, if that is known.
 SCENES = {
     "two_namespaces": (["change 0 / shared", "attach /auto"], [["nscopy 0", *EIGHT[:2]], SEVEN[:2]], "", 67),
     "expiry": ([*SHARED, SEVEN[0], "deliver 1", *["act 1 ok"] * 4, SEVEN[1]],
@@ -54,6 +55,8 @@ SCENES = {
     "death": (SHARED, [SEVEN, EIGHT, EXPIRER, DEATH], "", 56_054_078),
     "failures": (SHARED, [SEVEN, EIGHT, EXPIRER], " fail 2", 24_891_299_552),
     "administrator": (["attach /auto"], [SEVEN, DEATH[:1], DEATH[1:]], " fail 2", 1_711),
+    "seven_keys": (["attach /auto"], [*([f"walk {it} 0 /auto/k{it} 100 room"] for it in range(1, 8)), ["admincat 2"]],
+                   None, 40_320),
     "million": (SHARED, [SEVEN, EIGHT, NINE, EXPIRER, DEATH], " fail 2", None),
 }
 
@@ -64,7 +67,8 @@ def text_of(before, threads, fails):
     head = HEAD.replace("end\nevents", "mail srv:/mail\nend\nevents") if "/auto/mail" in str(threads) else HEAD
     for number, events in enumerate(threads):
         lines += [f"thread t{number}", *events, "end"]
-    return head + "\n".join([*lines, f"serve daemon{fails}"]) + "\n"
+    serves = [] if fails is None else [f"serve daemon{fails}"]
+    return head + "\n".join([*lines, *serves]) + "\n"
 
 
 def program_path():

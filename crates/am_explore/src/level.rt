@@ -12,6 +12,7 @@ use crate::standing::Progress;
 use am_job::{Act, Book, Job};
 use am_machine::Answer;
 use am_state::{Record, RecordRow};
+use am_world::World;
 use std::alloc::{AllocError, Global};
 
 /// How many lists the states of a level are found in.
@@ -100,19 +101,26 @@ fn mark_of_book(book: &Book) -> u64 {
     sum
 }
 
-/// A number of a state that few others have.
-fn bucket_of(begun: &Begun) -> usize {
-    let world = begun.world();
+/// A number of a world that few others have.
+pub fn mark_of_world(world: &World) -> u64 {
     let last = world.last();
     let mut sum = mixed(last.mount.0, last.token.0.into());
     sum = mixed(sum, world.mounts().len() as u64);
     for row in world.packets() {
         sum = mixed(sum, row.token.0.into());
     }
+    for row in world.walks() {
+        sum = mixed(sum, row.walker.0.into());
+    }
     for job in world.jobs() {
         sum = mixed(sum, mark_of_job(job));
     }
-    sum = mixed(sum, mark_of_book(world.book()));
+    mixed(sum, mark_of_book(world.book()))
+}
+
+/// Which list a state is found in.
+fn bucket_of(begun: &Begun) -> usize {
+    let mut sum = mark_of_world(begun.world());
     for progress in begun.threads() {
         sum = mixed(sum, mark_of(progress));
     }

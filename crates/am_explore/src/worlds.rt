@@ -2,11 +2,12 @@
 
 ghost use Rattle.std.specs.Prelude.{◌≡◌, [], OnOk, IfOk};
 
+use crate::level::mark_of_world;
 use am_world::World;
 use std::alloc::{AllocError, Global};
 
 /// How many lists worlds are found in.
-const BUCKETS: usize = 256;
+const BUCKETS: usize = 4_096;
 
 /// Worlds, each once: of those with equal halves the first. Beside them stands what finds them: no clause speaks of it,
 /// since what is found is compared.
@@ -18,17 +19,9 @@ pub struct Worlds {
     heads: Vec<usize>,
 }
 
-/// A number of a world that few others have.
+/// Which list a world is found in.
 fn bucket_of(world: &World) -> usize {
-    let last = world.last();
-    let sum = last
-        .mount
-        .0
-        .wrapping_mul(31)
-        .wrapping_add(last.token.0.into())
-        .wrapping_mul(31)
-        .wrapping_add(world.mounts().len() as u64);
-    (sum % BUCKETS as u64) as usize
+    (mark_of_world(world) % BUCKETS as u64) as usize
 }
 
 /// What a list has at this index; 0 where it has nothing.
