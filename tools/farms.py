@@ -7,7 +7,8 @@ usage: tools/farms.py [NAME..]
   deep: what is found of each question, the number of orders and the exit status are those of one run;
 - where no name is given, three walkers of bench/explore.py too: their orders, and those of the parts `1`, `2` .. that
   `explore --prefix` sees, add up;
-- what isn't seen isn't told; a program, a scene, a scheduler or words that aren't there are told in one line;
+- what isn't seen isn't told; a program, a scene, a scheduler or words that aren't there are told in one line, and a
+  fault of a scene as `explore` tells it;
 - the searches run on three workers of a scheduler of dask, on this machine, of which one is killed meanwhile: nothing
   else comes of them. Where Python's distributed isn't installed that is left out, and told.
 
@@ -128,7 +129,8 @@ def refusals(program, room):
         ("no states", ["--most", "0", scene], 2, "explore_farm: expected"),
         ("no program", ["--program", f"{room}/none", scene], 2, "explore_farm: expected a program"),
         ("another program", ["--program", "/bin/true", scene], 1, "explore_farm: the program"),
-        ("a bad scene", ["--program", program, bad], 1, "fault: line 2: BadThread"),
+        ("a bad scene", ["--program", program, bad], 1,
+         "fault: line 2: BadThread\n  thread\n        \\^ column 7: expected the name of the thread"),
         ("no address", ["--program", program, "--scheduler", "nowhere", scene], 2, "explore_farm: expected"),
     )
     for name, *row in rows:
