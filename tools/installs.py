@@ -32,6 +32,8 @@ MANUAL = offers.MANUAL
 PATIENCE = 300
 # What a command is given that has a fault where it reads nothing.
 GIVEN = {"explore": "events\n"}
+# What an option is given that has a fault where it is a number: that scene has no choice.
+VALUES = {"prefix": ""}
 # What stands in the folder before, and stays.
 BEFORE = "bin/of_another"
 
@@ -96,7 +98,7 @@ def takes(program):
         given = GIVEN.get(name, "")
         yield f"{name} is a command", ran(program, name, given=given).returncode == 0
         for option in options:
-            value = [] if option in offers.without_value() else ["1"]
+            value = [] if option in offers.without_value() else [VALUES.get(option, "1")]
             status = ran(program, name, f"--{option}", *value, given=given).returncode
             yield f"{name} --{option}", status == (0 if option in own else 2)
 
