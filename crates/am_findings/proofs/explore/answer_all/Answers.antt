@@ -1,5 +1,6 @@
-use Rattle.std.proofs.Common.{◌+◌, drop, subst, sym}
+use Rattle.std.proofs.Common.{◌≡◌, ◌+◌, ◌∷◌, ◌∙◌, ap, drop, subst, sym}
 use Rattle.std.proofs.lemmas.List.{drop_all, drop_more}
+use Rattle.am_scenes.specs.{Asked}
 use Rattle.am_findings.specs.{Verdict}
 use Rattle.am_findings.proofs.FindLemmas.{AreLeft, all_left, none_left, one_more}
 use Rattle.am_findings.proofs.explore.answer_all.Goals as goal
@@ -16,9 +17,13 @@ loop-asked-preserved g c =
     let i = c.loop-asked.asked-index in
     let old = c.args.text.now.items in
     let next = c.answer_one.new.text.items in
+    let asked = c.asked-item.result in
+    let here : drop i all ≡ asked ∷ drop (i + 1) all =
+    drop_more all i asked c.loop-asked-test.true
+    ∙ ap (λ (z : Asked). z ∷ drop (i + 1) all) (sym c.asked-item.is) in
     subst (λ (v : Verdict). AreLeft told part most (drop (i + 1) all) all old next v) (sym c.joined-verdict.ensures)
-    (one_more told part most _ (drop i all) (drop (i + 1) all) all old c.loop-asked.text.items next c.loop-asked.verdict
-    c.in_ok-one.one (drop_more all i _ c.loop-asked-test.true) c.loop-asked.invariant c.in_ok-one.ensures)
+    (one_more told part most asked (drop i all) (drop (i + 1) all) all old c.loop-asked.text.items next
+    c.loop-asked.verdict c.in_ok-one.one here c.loop-asked.invariant c.in_ok-one.ensures)
 
 pub returns : goal.returns
 returns g c =
