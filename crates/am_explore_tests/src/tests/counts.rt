@@ -37,7 +37,7 @@ fn two_namespaces(rt: HostRuntime) -> Result<(), Fail> {
         states: 59,
         ends: 10,
         steps: 116,
-        worlds: 0,
+        worlds: 4,
     };
     assert_eq!(rt; tally, all);
     Ok(())
@@ -51,7 +51,7 @@ fn expiry(rt: HostRuntime) -> Result<(), Fail> {
         states: 65,
         ends: 4,
         steps: 131,
-        worlds: 0,
+        worlds: 3,
     };
     assert_eq!(rt; tally, all);
     Ok(())
@@ -65,7 +65,7 @@ fn two_walkers(rt: HostRuntime) -> Result<(), Fail> {
         states: 52,
         ends: 3,
         steps: 106,
-        worlds: 0,
+        worlds: 1,
     };
     assert_eq!(rt; tally, all);
     Ok(())
@@ -79,7 +79,7 @@ fn three_walkers(rt: HostRuntime) -> Result<(), Fail> {
         states: 362,
         ends: 7,
         steps: 945,
-        worlds: 0,
+        worlds: 1,
     };
     assert_eq!(rt; tally, all);
     Ok(())
@@ -93,7 +93,7 @@ fn two_keys(rt: HostRuntime) -> Result<(), Fail> {
         states: 5_174,
         ends: 48,
         steps: 16_567,
-        worlds: 0,
+        worlds: 16,
     };
     assert_eq!(rt; tally, all);
     Ok(())
@@ -107,7 +107,7 @@ fn death(rt: HostRuntime) -> Result<(), Fail> {
         states: 31_555,
         ends: 826,
         steps: 101_130,
-        worlds: 0,
+        worlds: 38,
     };
     assert_eq!(rt; tally, all);
     Ok(())
@@ -121,7 +121,7 @@ fn failures(rt: HostRuntime) -> Result<(), Fail> {
         states: 6_942,
         ends: 213,
         steps: 20_242,
-        worlds: 0,
+        worlds: 16,
     };
     assert_eq!(rt; tally, all);
     Ok(())
@@ -135,7 +135,7 @@ fn administrator(rt: HostRuntime) -> Result<(), Fail> {
         states: 228,
         ends: 27,
         steps: 639,
-        worlds: 0,
+        worlds: 25,
     };
     assert_eq!(rt; tally, all);
     Ok(())

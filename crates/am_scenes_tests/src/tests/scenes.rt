@@ -89,14 +89,17 @@ fn is_exactly(alloc: Global, sought: &Sought, wanted: &[u8]) -> Result<bool, Err
 fn are_same_words(line: &[u8], other: &[u8]) -> bool {
     let mut line = line;
     let mut other = other;
-    while let Some((word, behind)) = next_word(line) {
+    for _word in 0..u64::MAX {
+        let Some((word, behind)) = next_word(line) else {
+            return next_word(other).is_none();
+        };
         match next_word(other) {
             Some((same, rest)) if word == same => other = rest,
             _ => return false,
         }
         line = behind;
     }
-    next_word(other).is_none()
+    false
 }
 
 fn asks(alloc: Global, question: &Question, wanted: &Wanted) -> Result<bool, Errno> {
